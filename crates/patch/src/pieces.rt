@@ -1,0 +1,48 @@
+// The pieces of a text between the bytes of one value.
+ghost use Prim.Native.Nat.{_≤_};
+ghost use lib.ListN.{length};
+
+// How many bytes stand before the first `mark`.
+pub fn find(text: &[u8], mark: u8) -> usize
+    ensures within { λ r. ⌜ r ≤ length (now (text .entry)) ⌝ }
+{
+    for (at, byte) in text.iter().enumerate() {
+        if *byte == mark {
+            return at;
+        }
+    }
+    text.len()
+}
+
+// How many of the bytes are `mark`: one less than there are pieces.
+pub fn marks(text: &[u8], mark: u8) -> usize
+    ensures within { λ r. ⌜ r ≤ length (now (text .entry)) ⌝ }
+{
+    let mut count = 0;
+    for byte in text {
+        if *byte == mark {
+            count += 1;
+        }
+    }
+    count
+}
+
+// What stands behind the first `mark`; nothing where there is none.
+fn behind(text: &[u8], mark: u8) -> &[u8] {
+    let end = find(text, mark);
+    if end < text.len() {
+        &text[end + 1..]
+    } else {
+        &text[end..]
+    }
+}
+
+// The piece at a place, blank where there is none.
+pub fn piece(text: &[u8], mark: u8, place: usize) -> &[u8] {
+    let mut rest = text;
+    for _ in 0..place {
+        rest = behind(rest, mark);
+    }
+    let end = find(rest, mark);
+    &rest[0..end]
+}

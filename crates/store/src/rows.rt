@@ -1,0 +1,68 @@
+// What each line reaches: a table of 256 rows, a row for each rank.
+use crate::row::Row;
+
+#[derive(Clone, Copy)]
+pub struct Rows {
+    rows: [Row; 256],
+}
+
+impl Rows {
+    pub fn empty() -> Rows {
+        Rows {
+            rows: [Row::empty(); 256],
+        }
+    }
+
+    // The ranks that the line at this rank reaches; none beyond the last.
+    pub fn row(&self, rank: usize) -> Row {
+        if rank < 256 {
+            self.rows[rank]
+        } else {
+            Row::empty()
+        }
+    }
+
+    pub fn has(&self, from: usize, to: usize) -> bool {
+        if from < 256 {
+            self.rows[from].has(to)
+        } else {
+            false
+        }
+    }
+
+    // The line at `from` reaches the line at `to`.
+    pub fn add(&mut self, from: usize, to: usize) {
+        if from < 256 {
+            self.rows[from].add(to);
+        }
+    }
+
+    // One link more: whatever leads to its start now reaches its end, and all that its end reaches.
+    pub fn join(&mut self, from: usize, to: usize) {
+        let mut gained = self.row(to);
+        gained.add(to);
+        for rank in 0..256 {
+            if rank == from || self.has(rank, from) {
+                self.rows[rank].join(&gained);
+            }
+        }
+    }
+
+    // The same table read backwards: what each line is reached by.
+    pub fn turned(&self) -> Rows {
+        let mut turned = Rows::empty();
+        for from in 0..256 {
+            turned.add_column(from, &self.rows[from]);
+        }
+        turned
+    }
+
+    // Each rank of the row reaches `to`.
+    fn add_column(&mut self, to: usize, row: &Row) {
+        for from in 0..256 {
+            if row.has(from) {
+                self.add(from, to);
+            }
+        }
+    }
+}
