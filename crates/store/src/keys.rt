@@ -12,7 +12,7 @@ use std::cmp::Ordering;
 
 // A record that stands in a list by its key: no two records of a list have equal keys.
 pub trait Record: Copy {
-    type Key;
+    type Key: Copy;
 
     fn key(&self) -> Self::Key;
 
