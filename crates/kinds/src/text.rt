@@ -1,3 +1,7 @@
+ghost use mathlib.Core.Path.{_≡_};
+ghost use Prim.Native.Nat.{_≤_};
+ghost use lib.ListN.{length};
+
 // A text of at most N bytes, kept in place: how a value hands out its text without allocating.
 #[derive(Clone, Copy)]
 pub struct Text<const N: usize> {
@@ -41,12 +45,15 @@ impl<const N: usize> Text<N> {
         self.push(b'0' + (number % 10) as u8);
     }
 
+    pub fn len(&self) -> usize
+        ensures within { λ r. ⌜ r ≤ N ⌝ }
+    {
+        if self.len < N { self.len } else { N }
+    }
+
     pub fn as_slice(&self) -> &[u8] {
         let all = &self.bytes[..];
-        if self.len < all.len() {
-            &all[0..self.len]
-        } else {
-            all
-        }
+        let len = self.len();
+        if len < all.len() { &all[0..len] } else { all }
     }
 }

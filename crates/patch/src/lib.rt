@@ -2,7 +2,7 @@
 mod columns;
 pub mod entries;
 pub mod names;
-mod pieces;
+pub mod pieces;
 pub mod reader;
 pub mod refusals;
 mod values;

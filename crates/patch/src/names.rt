@@ -1,5 +1,5 @@
 // A line's name: the identifier of the patch that it belongs to, a colon, and an index from 0 to 255.
-use crate::pieces::find;
+use crate::pieces::split_first;
 use kinds::identifier::Identifier;
 use kinds::numbers::read_number;
 use kinds::text::Text;
@@ -19,12 +19,9 @@ pub struct LineName<I> {
 impl<I: Identifier> LineName<I> {
     // The name that a text writes; nothing for any other text.
     pub fn read(text: &[u8]) -> Option<LineName<I>> {
-        let colon = find(text, b':');
-        if text.len() <= colon {
-            return None;
-        }
-        let patch = I::read(&text[0..colon])?;
-        let index = read_number(&text[colon + 1..], MOST_INDEX)?;
+        let (patch, index) = split_first(text, b':')?;
+        let patch = I::read(patch)?;
+        let index = read_number(index, MOST_INDEX)?;
         Some(LineName {
             patch,
             index: index as u8,

@@ -27,13 +27,13 @@ pub fn marks(text: &[u8], mark: u8) -> usize
     count
 }
 
-// What stands behind the first `mark`; nothing where there is none.
-fn behind(text: &[u8], mark: u8) -> &[u8] {
+// The text before the first `mark` and the text behind it; nothing where there is no mark.
+pub fn split_first(text: &[u8], mark: u8) -> Option<(&[u8], &[u8])> {
     let end = find(text, mark);
     if end < text.len() {
-        &text[end + 1..]
+        Some((&text[0..end], &text[end + 1..]))
     } else {
-        &text[end..]
+        None
     }
 }
 
@@ -41,7 +41,10 @@ fn behind(text: &[u8], mark: u8) -> &[u8] {
 pub fn piece(text: &[u8], mark: u8, place: usize) -> &[u8] {
     let mut rest = text;
     for _ in 0..place {
-        rest = behind(rest, mark);
+        rest = match split_first(rest, mark) {
+            Some((_, behind)) => behind,
+            None => &[],
+        };
     }
     let end = find(rest, mark);
     &rest[0..end]

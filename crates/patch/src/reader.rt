@@ -1,8 +1,8 @@
 // The reader of patch texts. Every line of a patch text ends with byte 10.
 use crate::columns::Columns;
+use crate::entries::Entry;
 use crate::entries::MOST_ENTRIES;
-use crate::entries::Patch;
-use crate::pieces::find;
+use crate::pieces::split_first;
 use crate::refusals::Layer;
 use crate::refusals::Reason;
 use crate::refusals::Refusal;
@@ -10,47 +10,87 @@ use crate::values::read_entry;
 use kinds::content::Content;
 use kinds::identifier::Identifier;
 
+// A patch text without fault: its value lines, and the order of their columns. The entries are read off it one by one.
+#[derive(Clone, Copy)]
+pub struct Patch<'t> {
+    columns: Columns,
+    values: &'t [u8],
+}
+
+// The entries that are still to come.
+#[derive(Clone, Copy)]
+pub struct Entries<'t> {
+    columns: Columns,
+    rest: &'t [u8],
+}
+
 fn fault<I>(reason: Reason, line: usize) -> Refusal<I> {
     Refusal::plain(reason, line, Layer::Reader)
 }
 
-// The value lines. The first of them is line 2 of the text.
-fn read_values<I: Identifier, C: Content>(
-    text: &[u8],
+// The value line at the front and what stands behind it, or the fault of that line, the number of which is told.
+fn check_line<'t, I: Identifier, C: Content>(
+    rest: &'t [u8],
     columns: Columns,
-) -> Result<Patch<I, C>, Refusal<I>> {
-    let mut patch = Patch::new();
-    let mut rest = text;
-    while !rest.is_empty() {
-        let line = patch.len() + 2;
-        if patch.len() == MOST_ENTRIES {
-            return Err(fault(Reason::BadCount, line));
-        }
-        let end = find(rest, b'\n');
-        if rest.len() <= end {
-            return Err(fault(Reason::BadValueLine, line));
-        }
-        match read_entry(&rest[0..end], columns) {
-            Ok(entry) => patch.push(entry),
-            Err(reason) => return Err(fault(reason, line)),
-        }
-        ;
-        rest = &rest[end + 1..];
+    line: usize,
+) -> Result<&'t [u8], Refusal<I>> {
+    let Some((values, behind)) = split_first(rest, b'\n') else {
+        return Err(fault(Reason::BadValueLine, line));
+    };
+    match read_entry::<I, C>(values, columns) {
+        Ok(_) => Ok(behind),
+        Err(reason) => Err(fault(reason, line)),
     }
-    if patch.len() == 0 {
-        return Err(fault(Reason::BadCount, 2));
-    }
-    Ok(patch)
 }
 
-// The entries of a patch text, or its first fault.
-pub fn read_patch<I: Identifier, C: Content>(text: &[u8]) -> Result<Patch<I, C>, Refusal<I>> {
-    let end = find(text, b'\n');
-    if text.len() <= end {
-        return Err(fault(Reason::BadHeading, 1));
+// The first fault of the value lines, which begin at line 2 of the text.
+fn check_values<I: Identifier, C: Content>(
+    values: &[u8],
+    columns: Columns,
+) -> Result<(), Refusal<I>> {
+    if values.is_empty() {
+        return Err(fault(Reason::BadCount, 2));
     }
-    let Some(columns) = Columns::read(&text[0..end]) else {
-        return Err(fault(Reason::BadHeading, 1));
-    };
-    read_values(&text[end + 1..], columns)
+    let mut rest = values;
+    for place in 0..MOST_ENTRIES {
+        if rest.is_empty() {
+            return Ok(());
+        }
+        rest = check_line::<I, C>(rest, columns, place + 2)?;
+    }
+    if rest.is_empty() {
+        Ok(())
+    } else {
+        Err(fault(Reason::BadCount, MOST_ENTRIES + 2))
+    }
+}
+
+impl<'t> Patch<'t> {
+    // The patch that a text writes, or the text's first fault.
+    pub fn read<I: Identifier, C: Content>(text: &'t [u8]) -> Result<Patch<'t>, Refusal<I>> {
+        let Some((heading, values)) = split_first(text, b'\n') else {
+            return Err(fault(Reason::BadHeading, 1));
+        };
+        let Some(columns) = Columns::read(heading) else {
+            return Err(fault(Reason::BadHeading, 1));
+        };
+        check_values::<I, C>(values, columns)?;
+        Ok(Patch { columns, values })
+    }
+
+    // The entries in the order of the text.
+    pub fn entries(&self) -> Entries<'t> {
+        Entries {
+            columns: self.columns,
+            rest: self.values,
+        }
+    }
+}
+
+impl<'t> Entries<'t> {
+    pub fn next<I: Identifier, C: Content>(&mut self) -> Option<Entry<I, C>> {
+        let (values, behind) = split_first(self.rest, b'\n')?;
+        self.rest = behind;
+        read_entry(values, self.columns).ok()
+    }
 }
