@@ -27,6 +27,14 @@ impl BranchNumber {
         Some(BranchNumber { branch, serial })
     }
 
+    // The least branch number, 1.1.
+    pub fn least() -> BranchNumber {
+        BranchNumber {
+            branch: 1,
+            serial: 1,
+        }
+    }
+
     pub fn branch(&self) -> u32 {
         self.branch
     }

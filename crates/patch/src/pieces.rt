@@ -1,6 +1,8 @@
 // The pieces of a text between the bytes of one value.
-ghost use Prim.Native.Nat.{_≤_};
+ghost use mathlib.Core.Path.{_≡_};
+ghost use Prim.Native.Nat.{_+_, _≤_};
 ghost use lib.ListN.{length};
+ghost use Rattle.std.specs.Slices.{found};
 
 // How many bytes stand before the first `mark`.
 pub fn find(text: &[u8], mark: u8) -> usize
@@ -28,7 +30,9 @@ pub fn marks(text: &[u8], mark: u8) -> usize
 }
 
 // The text before the first `mark` and the text behind it; nothing where there is no mark.
-pub fn split_first(text: &[u8], mark: u8) -> Option<(&[u8], &[u8])> {
+pub fn split_first(text: &[u8], mark: u8) -> Option<(&[u8], &[u8])>
+    ensures lengths { λ r. ⌜ found r (λ p. length (p .0 .now) + length (p .1 .now) + 1 ≡ length (now (text .entry))) ⌝ }
+{
     let end = find(text, mark);
     if end < text.len() {
         Some((&text[0..end], &text[end + 1..]))

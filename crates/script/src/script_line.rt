@@ -1,7 +1,6 @@
-// One line of a script.
-
+// What a line of a script says. The byte 10 at its end is not part of it.
 #[derive(Clone, Copy)]
-pub enum ScriptLine<'t> {
+pub enum Saying<'t> {
     Apply(&'t [u8]),
     Unapply(&'t [u8]),
     Page,
@@ -9,28 +8,28 @@ pub enum ScriptLine<'t> {
     Other,
 }
 
-// What stands behind the front, where the line begins with it.
-fn behind<'t>(line: &'t [u8], front: &[u8]) -> Option<&'t [u8]> {
-    if front.len() <= line.len() && &line[0..front.len()] == front {
-        Some(&line[front.len()..])
-    } else {
-        None
-    }
+// A line that has its ending.
+#[derive(Clone, Copy)]
+pub struct ScriptLine<'t> {
+    pub number: usize,
+    pub saying: Saying<'t>,
+    // The script from this line on, and behind it.
+    pub from: &'t [u8],
+    pub behind: &'t [u8],
 }
 
-// What a line is that ends with byte 10, which is not part of `line`.
-pub fn read_line(line: &[u8]) -> ScriptLine<'_> {
-    if let Some(id) = behind(line, b"apply ") {
-        return ScriptLine::Apply(id);
+pub fn read_saying<'t>(line: &'t [u8]) -> Saying<'t> {
+    if let Some(id) = line.strip_prefix(b"apply ") {
+        return Saying::Apply(id);
     }
-    if let Some(id) = behind(line, b"unapply ") {
-        return ScriptLine::Unapply(id);
+    if let Some(id) = line.strip_prefix(b"unapply ") {
+        return Saying::Unapply(id);
     }
     if line == b"page" {
-        return ScriptLine::Page;
+        return Saying::Page;
     }
     if line == b"end" {
-        return ScriptLine::End;
+        return Saying::End;
     }
-    ScriptLine::Other
+    Saying::Other
 }
