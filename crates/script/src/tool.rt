@@ -1,5 +1,4 @@
 // The commands of a script, done to a volume.
-ghost use Prim.Native.Nat.{_≤_};
 use crate::answers::AnswerText;
 use crate::answers::granted_text;
 use crate::answers::refused_text;
@@ -10,6 +9,11 @@ use patch::refusals::Reason;
 use patch::refusals::Refusal;
 use store::store::Store;
 use volume::volume::Volume;
+
+// The refusal of a line that is no command.
+pub fn script_fault<I>(line: usize) -> Refusal<I> {
+    Refusal::plain(Reason::BadScript, line, Layer::Tool)
+}
 
 // Memory for what one command prints: no page is longer.
 #[derive(Drop)]
@@ -51,7 +55,7 @@ impl Printout {
         let answer = match command {
             Command::Apply { id, text } => volume.apply(id, text),
             Command::Unapply { id } => volume.unapply(id),
-            Command::Fault { line } => Err(Refusal::plain(Reason::BadScript, line, Layer::Tool)),
+            Command::Fault { line } => Err(script_fault(line)),
             Command::Page => match volume.page(&mut self.bytes[..]) {
                 Ok(len) => {
                     self.len = len;
