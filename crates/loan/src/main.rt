@@ -1,18 +1,15 @@
 // The loan tool: reads a script from standard input, and prints the answer of each command.
 ghost use Prim.Native.Nat.{_≤_};
 ghost use lib.ListN.{length};
-use flat::flat_store::FlatStore;
 use flat::flat_store::FlatStoreStore;
 use kinds::branches::BranchIdentifier;
 use kinds::text_line::TextLineContent;
-use lending::memory::line_memory;
-use lending::memory::link_memory;
-use lending::memory::strike_memory;
+use lending::shelf::Shelf;
+use page::sheet::Sheet;
 use script::machine::Script;
-use script::tool::Printout;
+use script::tool::perform;
 use std::io::Read;
 use std::io::Write;
-use volume::volume::Volume;
 
 // One byte more than the longest script, to tell one that is too long.
 const MOST_INPUT: usize = 32_769;
@@ -36,16 +33,14 @@ fn read_input(rt: &LibcRuntime, memory: &mut [u8]) -> usize
 fn main(rt: LibcRuntime) {
     let mut input = [0; MOST_INPUT];
     let len = read_input(&rt, &mut input);
-    let mut lines = line_memory();
-    let mut links = link_memory();
-    let mut strikes = strike_memory();
-    let mut volume = Volume::new(FlatStore::new(&mut lines, &mut links, &mut strikes));
+    let mut shelf = Shelf::new();
+    let mut volume = shelf.volume();
     let mut script = Script::new(&input[0..len]);
-    let mut printout = Printout::new();
+    let mut sheet = Sheet::new();
     let mut output = rt.stdout();
     while let Some(command) = script.next() {
-        printout.perform(&mut volume, command);
-        if output.write_all(printout.as_slice()).is_err() {
+        perform(&mut volume, command, &mut sheet);
+        if output.write_all(sheet.as_slice()).is_err() {
             return;
         }
     }

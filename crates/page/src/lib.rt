@@ -3,4 +3,5 @@ mod lister;
 pub mod listing;
 mod live;
 pub mod page;
-mod sheet;
+pub mod sheet;
+mod text;

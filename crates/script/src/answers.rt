@@ -7,10 +7,8 @@ use patch::refusals::Refusal;
 // Room for `no`, a number, a place, the longest name and byte 10.
 pub type AnswerText = Text<64>;
 
-pub fn granted_text() -> AnswerText {
-    let mut text = Text::new();
-    text.append(b"ok\n");
-    text
+pub fn granted_text() -> &'static [u8] {
+    b"ok\n"
 }
 
 pub fn refused_text<I: Identifier>(refusal: &Refusal<I>) -> AnswerText {

@@ -1,32 +1,27 @@
 // Runs the scripts of data/, each over an empty volume, and holds what it prints to the file beside it.
-use flat::flat_store::FlatStore;
 use flat::flat_store::FlatStoreStore;
 use kinds::branches::BranchIdentifier;
 use kinds::text_line::TextLineContent;
-use lending::memory::line_memory;
-use lending::memory::link_memory;
-use lending::memory::strike_memory;
+use lending::shelf::Shelf;
+use page::sheet::Sheet;
 use script::machine::Script;
-use script::tool::Printout;
+use script::tool::perform;
 use std::alloc::AllocError;
 use std::alloc::Global;
 use std::env;
 use std::error::AnyError;
 use std::fs;
-use volume::volume::Volume;
 
 // All that the loan tool prints for the script.
 fn printed(heap: Global, bytes: &[u8]) -> Result<Vec<u8>, AllocError> {
-    let mut lines = line_memory();
-    let mut links = link_memory();
-    let mut strikes = strike_memory();
-    let mut volume = Volume::new(FlatStore::new(&mut lines, &mut links, &mut strikes));
+    let mut shelf = Shelf::new();
+    let mut volume = shelf.volume();
     let mut script = Script::new(bytes);
-    let mut printout = Printout::new();
+    let mut sheet = Sheet::new();
     let mut all = Vec::new(heap);
     while let Some(command) = script.next() {
-        printout.perform(&mut volume, command);
-        all.extend_from_slice(printout.as_slice())?;
+        perform(&mut volume, command, &mut sheet);
+        all.extend_from_slice(sheet.as_slice())?;
     }
     Ok(all)
 }

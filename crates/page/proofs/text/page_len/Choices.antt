@@ -1,5 +1,5 @@
 use Prim.Native.Nat.{_+_, _*_, _≤_}
-use Rattle.page.proofs.sheet.page_len.Given as given
+use Rattle.page.proofs.text.page_len.Given as given
 
 abbrev pub Inv-loop-place : given.InvT-loop-place
 Inv-loop-place g l = l .len ≤ 26 + 112 * l .place
