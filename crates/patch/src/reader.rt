@@ -1,4 +1,9 @@
 // The reader of patch texts. Every line of a patch text ends with byte 10.
+ghost use mathlib.Core.Path.{_≡_};
+ghost use Rattle.std.specs.Vec.{refused};
+ghost use Rattle.patch.specs.declared.refusals.Cause.the-variants.{Nothing};
+ghost use Rattle.patch.specs.declared.refusals.Layer.the-variants.{Reader};
+ghost use Rattle.patch.specs.Refusals.{Tabled, Value-line};
 use crate::columns::Columns;
 use crate::entries::Entry;
 use crate::entries::MOST_ENTRIES;
@@ -24,16 +29,21 @@ pub struct Entries<'t> {
     rest: &'t [u8],
 }
 
-fn fault<I>(reason: Reason, line: usize) -> Refusal<I> {
+fn fault<I>(reason: Reason, line: usize) -> Refusal<I>
+    ensures { λ r. ⌜ r ≡ record { reason = reason; place = line; cause = Nothing; layer = Reader } ⌝ }
+{
     Refusal::plain(reason, line, Layer::Reader)
 }
 
-// The value line at the front and what stands behind it, or the fault of that line, the number of which is told.
+// What stands behind the value line at the front, or the fault of that line, the number of which is told.
 fn check_line<'t, I: Identifier, C: Content>(
     rest: &'t [u8],
     columns: Columns,
     line: usize,
-) -> Result<&'t [u8], Refusal<I>> {
+) -> Result<&'t [u8], Refusal<I>>
+    requires { ⌜ Value-line line ⌝ }
+    ensures fault { λ r. ⌜ refused r Tabled ⌝ }
+{
     let Some((values, behind)) = split_first(rest, b'\n') else {
         return Err(fault(Reason::BadValueLine, line));
     };
@@ -47,7 +57,9 @@ fn check_line<'t, I: Identifier, C: Content>(
 fn check_values<I: Identifier, C: Content>(
     values: &[u8],
     columns: Columns,
-) -> Result<(), Refusal<I>> {
+) -> Result<(), Refusal<I>>
+    ensures fault { λ r. ⌜ refused r Tabled ⌝ }
+{
     if values.is_empty() {
         return Err(fault(Reason::BadCount, 2));
     }
@@ -67,7 +79,9 @@ fn check_values<I: Identifier, C: Content>(
 
 impl<'t> Patch<'t> {
     // The patch that a text writes, or the text's first fault.
-    pub fn read<I: Identifier, C: Content>(text: &'t [u8]) -> Result<Patch<'t>, Refusal<I>> {
+    pub fn read<I: Identifier, C: Content>(text: &'t [u8]) -> Result<Patch<'t>, Refusal<I>>
+        ensures fault { λ r. ⌜ refused r Tabled ⌝ }
+    {
         let Some((heading, values)) = split_first(text, b'\n') else {
             return Err(fault(Reason::BadHeading, 1));
         };

@@ -1,4 +1,7 @@
 // Why a call was refused.
+ghost use mathlib.Core.Path.{_≡_};
+ghost use Rattle.patch.specs.declared.refusals.Cause.the-variants.{Nothing};
+ghost use Rattle.patch.specs.Refusals.{number-of};
 use crate::names::LineName;
 use crate::names::LineNameClone;
 
@@ -23,7 +26,9 @@ pub enum Reason {
 }
 
 impl Reason {
-    pub fn number(&self) -> usize {
+    pub fn number(&self) -> usize
+        ensures { λ r. ⌜ r ≡ number-of (now (self .entry)) ⌝ }
+    {
         match self {
             Reason::UnlawfulIdentifier => 1,
             Reason::BadHeading => 2,
@@ -73,7 +78,9 @@ pub struct Refusal<I> {
 
 impl<I> Refusal<I> {
     // A refusal that points at nothing.
-    pub fn plain(reason: Reason, place: usize, layer: Layer) -> Refusal<I> {
+    pub fn plain(reason: Reason, place: usize, layer: Layer) -> Refusal<I>
+        ensures { λ r. ⌜ r ≡ record { reason = reason; place = place; cause = Nothing; layer = layer } ⌝ }
+    {
         Refusal {
             reason,
             place,

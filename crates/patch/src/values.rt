@@ -1,4 +1,8 @@
 // One value line of a patch text. The values are tested in the order act, line, to, text.
+ghost use Rattle.std.specs.Vec.{refused};
+ghost use Rattle.patch.specs.declared.refusals.Layer.the-variants.{Reader};
+ghost use Rattle.patch.specs.Refusals.{Line-fault};
+ghost use Rattle.patch.specs.Refusals.Sort.{nothing};
 use crate::columns::Columns;
 use crate::entries::Entry;
 use crate::names::LineName;
@@ -12,7 +16,9 @@ fn read_add<I: Identifier, C: Content>(
     line: &[u8],
     to: &[u8],
     text: &[u8],
-) -> Result<Entry<I, C>, Reason> {
+) -> Result<Entry<I, C>, Reason>
+    ensures fault { λ r. ⌜ refused r (Line-fault Reader nothing) ⌝ }
+{
     let Some(line) = LineName::read(line) else {
         return Err(Reason::BadValueLine);
     };
@@ -29,7 +35,9 @@ fn read_link<I: Identifier, C: Content>(
     line: &[u8],
     to: &[u8],
     text: &[u8],
-) -> Result<Entry<I, C>, Reason> {
+) -> Result<Entry<I, C>, Reason>
+    ensures fault { λ r. ⌜ refused r (Line-fault Reader nothing) ⌝ }
+{
     let Some(from) = LineName::read(line) else {
         return Err(Reason::BadValueLine);
     };
@@ -46,7 +54,9 @@ fn read_strike<I: Identifier, C: Content>(
     line: &[u8],
     to: &[u8],
     text: &[u8],
-) -> Result<Entry<I, C>, Reason> {
+) -> Result<Entry<I, C>, Reason>
+    ensures fault { λ r. ⌜ refused r (Line-fault Reader nothing) ⌝ }
+{
     let Some(line) = LineName::read(line) else {
         return Err(Reason::BadValueLine);
     };
@@ -63,7 +73,9 @@ fn read_strike<I: Identifier, C: Content>(
 pub fn read_entry<I: Identifier, C: Content>(
     values: &[u8],
     columns: Columns,
-) -> Result<Entry<I, C>, Reason> {
+) -> Result<Entry<I, C>, Reason>
+    ensures fault { λ r. ⌜ refused r (Line-fault Reader nothing) ⌝ }
+{
     if marks(values, b';') != 3 {
         return Err(Reason::BadValueLine);
     }

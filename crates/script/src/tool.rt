@@ -1,4 +1,8 @@
 // The commands of a script, done to a volume.
+ghost use mathlib.Core.Path.{_≡_};
+ghost use Rattle.patch.specs.declared.refusals.Cause.the-variants.{Nothing};
+ghost use Rattle.patch.specs.declared.refusals.Layer.the-variants.{Tool};
+ghost use Rattle.patch.specs.declared.refusals.Reason.the-variants.{BadScript};
 use crate::answers::granted_text;
 use crate::answers::refused_text;
 use crate::machine::Command;
@@ -10,7 +14,9 @@ use store::store::Store;
 use volume::volume::Volume;
 
 // The refusal of a line that is no command.
-pub fn script_fault<I>(line: usize) -> Refusal<I> {
+pub fn script_fault<I>(line: usize) -> Refusal<I>
+    ensures { λ r. ⌜ r ≡ record { reason = BadScript; place = line; cause = Nothing; layer = Tool } ⌝ }
+{
     Refusal::plain(Reason::BadScript, line, Layer::Tool)
 }
 

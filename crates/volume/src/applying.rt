@@ -1,5 +1,7 @@
 // The tests of apply, after the patch text is read.
 ghost use Prim.Native.Nat.{_≤_};
+ghost use Rattle.std.specs.Slices.{found};
+ghost use Rattle.patch.specs.Refusals.{Tabled};
 use crate::entry_faults::entry_fault;
 use crate::standing::stands;
 use kinds::content::Content;
@@ -15,7 +17,9 @@ use store::room::room_fault;
 use store::sizes::Sizes;
 use store::store::Store;
 
-fn entries_fault<S: Store>(store: &S, patch: &S::Id, text: &Patch) -> Option<Refusal<S::Id>> {
+fn entries_fault<S: Store>(store: &S, patch: &S::Id, text: &Patch) -> Option<Refusal<S::Id>>
+    ensures fault { λ r. ⌜ found r Tabled ⌝ }
+{
     let mut entries = text.entries();
     for place in 0..MOST_ENTRIES {
         let entry = entries.next()?;
@@ -82,7 +86,9 @@ fn weigh<I: Identifier, C: Content>(text: &Patch) -> Sizes {
 }
 
 // Why the patch cannot be applied: it stands, the first fault of its entries, or a list that is too full.
-pub fn apply_fault<S: Store>(store: &S, patch: &S::Id, text: &Patch) -> Option<Refusal<S::Id>> {
+pub fn apply_fault<S: Store>(store: &S, patch: &S::Id, text: &Patch) -> Option<Refusal<S::Id>>
+    ensures fault { λ r. ⌜ found r Tabled ⌝ }
+{
     if stands(store, patch) {
         return Some(Refusal {
             reason: Reason::AlreadyStands,

@@ -1,4 +1,7 @@
 // The tests of one entry of a patch that is about to be applied.
+ghost use Rattle.std.specs.Slices.{found};
+ghost use Rattle.patch.specs.declared.refusals.Layer.the-variants.{Volume};
+ghost use Rattle.patch.specs.Refusals.{Line-fault, sort-of};
 use crate::standing::stands;
 use kinds::content::Content;
 use kinds::identifier::Identifier;
@@ -92,7 +95,9 @@ fn name_fault<S: Store>(
     patch: &S::Id,
     text: &Patch,
     name: &LineName<S::Id>,
-) -> Option<(Reason, Cause<S::Id>)> {
+) -> Option<(Reason, Cause<S::Id>)>
+    ensures fault { λ r. ⌜ found r (λ f. Line-fault Volume (sort-of (f .1)) (f .0)) ⌝ }
+{
     if name.belongs_to(patch) {
         if adds_line::<S::Id, S::Content>(text, name) {
             return None;
@@ -114,7 +119,9 @@ fn names_fault<S: Store>(
     patch: &S::Id,
     text: &Patch,
     entry: &Entry<S::Id, S::Content>,
-) -> Option<(Reason, Cause<S::Id>)> {
+) -> Option<(Reason, Cause<S::Id>)>
+    ensures fault { λ r. ⌜ found r (λ f. Line-fault Volume (sort-of (f .1)) (f .0)) ⌝ }
+{
     let fault = name_fault(store, patch, text, &first_name(entry));
     if fault.is_some() {
         return fault;
@@ -132,7 +139,9 @@ pub fn entry_fault<S: Store>(
     text: &Patch,
     place: usize,
     entry: &Entry<S::Id, S::Content>,
-) -> Option<(Reason, Cause<S::Id>)> {
+) -> Option<(Reason, Cause<S::Id>)>
+    ensures fault { λ r. ⌜ found r (λ f. Line-fault Volume (sort-of (f .1)) (f .0)) ⌝ }
+{
     if is_forbidden(patch, entry) {
         return Some((Reason::ForbiddenName, Cause::Line(first_name(entry))));
     }

@@ -1,4 +1,6 @@
 // The tests of unapply.
+ghost use Rattle.std.specs.Slices.{found};
+ghost use Rattle.patch.specs.Refusals.{Tabled};
 use crate::standing::stands;
 use kinds::identifier::Identifier;
 use patch::refusals::Cause;
@@ -63,7 +65,9 @@ fn least_among_strikes<S: Store>(store: &S, patch: &S::Id, start: Option<S::Id>)
 }
 
 // Why the patch cannot be unapplied: it does not stand, or another standing patch names a line of it.
-pub fn unapply_fault<S: Store>(store: &S, patch: &S::Id) -> Option<Refusal<S::Id>> {
+pub fn unapply_fault<S: Store>(store: &S, patch: &S::Id) -> Option<Refusal<S::Id>>
+    ensures fault { λ r. ⌜ found r Tabled ⌝ }
+{
     if !stands(store, patch) {
         return Some(Refusal {
             reason: Reason::DoesNotStand,
