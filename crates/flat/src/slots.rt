@@ -7,7 +7,7 @@ use store::keys::Owned;
 use store::keys::Record;
 
 // The place of the record that has this key, or the place where it would go. Halves what is left until none is.
-pub fn seek<R: Record>(records: &[R], key: &R::Key) -> Result<usize, usize>
+pub(crate) fn seek<R: Record>(records: &[R], key: &R::Key) -> Result<usize, usize>
     ensures within { λ r. ⌜ Cases r (λ at. at < length (now (records .entry))) (λ at. at ≤ length (now (records .entry))) ⌝ }
 {
     let mut low = 0;
@@ -24,7 +24,7 @@ pub fn seek<R: Record>(records: &[R], key: &R::Key) -> Result<usize, usize>
 }
 
 // Moves the records from `at` to `count` up by one, and puts the new one into the gap.
-pub fn open<R: Copy>(slots: &mut [R], at: usize, count: usize, added: R)
+pub(crate) fn open<R: Copy>(slots: &mut [R], at: usize, count: usize, added: R)
     requires { ⌜ at ≤ count ⌝ ∗ ⌜ count < length (now slots) ⌝ }
 {
     let mut gap = count;
@@ -36,7 +36,7 @@ pub fn open<R: Copy>(slots: &mut [R], at: usize, count: usize, added: R)
 }
 
 // Moves those of the first `count` records that are not the owner's to the front, in their order, and says how many they are.
-pub fn keep_others<O, R: Copy + Owned<O>>(slots: &mut [R], count: usize, owner: &O) -> usize
+pub(crate) fn keep_others<O, R: Copy + Owned<O>>(slots: &mut [R], count: usize, owner: &O) -> usize
     requires { ⌜ count ≤ length (now slots) ⌝ }
     ensures within { λ r. ⌜ r ≤ count ⌝ }
 {

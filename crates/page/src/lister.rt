@@ -19,7 +19,7 @@ pub struct Lister {
 }
 
 impl Lister {
-    pub fn new(reach: &Rows, live: &Row) -> Lister {
+    pub(crate) fn new(reach: &Rows, live: &Row) -> Lister {
         Lister {
             after: *reach,
             before: reach.turned(),
@@ -30,7 +30,7 @@ impl Lister {
     }
 
     // The line to list next: the knot begun goes on, else the least line that is ready begins one.
-    pub fn next(&self) -> Option<usize> {
+    pub(crate) fn next(&self) -> Option<usize> {
         let mut begun = self.knot;
         begun.keep(&self.free);
         if begun.is_empty() {
@@ -65,7 +65,7 @@ impl Lister {
     }
 
     // Where the line stands that follows on the last one. Before the first, the last block is 0.
-    pub fn place(&self, last: &Spot, rank: usize) -> Spot
+    pub(crate) fn place(&self, last: &Spot, rank: usize) -> Spot
         requires block { ⌜ now last .block < 256 ⌝ }
         requires knot { ⌜ now last .knot < 256 ⌝ }
         ensures block { λ r. ⌜ r .block ≤ now (last .entry) .block + 1 ⌝ }
@@ -93,7 +93,7 @@ impl Lister {
     }
 
     // The line is listed now.
-    pub fn take(&mut self, rank: usize) {
+    pub(crate) fn take(&mut self, rank: usize) {
         let mut listed = Row::empty();
         listed.add(rank);
         let reached = self.after.row(rank);

@@ -24,7 +24,7 @@ fn struck_lines<S: Store>(store: &S) -> Row {
 }
 
 // The ranks of the lines that no strike is against.
-pub fn live_lines<S: Store>(store: &S) -> Row {
+pub(crate) fn live_lines<S: Store>(store: &S) -> Row {
     let mut live = below(store.counts().lines);
     live.remove(&struck_lines(store));
     live

@@ -45,7 +45,7 @@ fn row_at<S: Store>(store: &S, listing: &Listing, place: usize) -> Option<RowTex
 }
 
 // How many bytes the page has.
-pub fn page_len<S: Store>(store: &S, listing: &Listing) -> usize
+pub(crate) fn page_len<S: Store>(store: &S, listing: &Listing) -> usize
     ensures least { λ r. ⌜ 26 ≤ r ⌝ }
     ensures bound { λ r. ⌜ r ≤ 28698 ⌝ }
 {
@@ -71,7 +71,7 @@ fn put(memory: &mut [u8], at: usize, bytes: &[u8]) -> usize {
 }
 
 // Writes the page, as far as the memory goes.
-pub fn fill<S: Store>(store: &S, listing: &Listing, memory: &mut [u8]) {
+pub(crate) fn fill<S: Store>(store: &S, listing: &Listing, memory: &mut [u8]) {
     let mut at = put(memory, 0, &HEADING);
     for place in 0..listing.len() {
         if let Some(row) = row_at(store, listing, place) {

@@ -23,7 +23,7 @@ fn place_of(heading: &[u8], name: &[u8]) -> Option<usize> {
 
 impl Columns {
     // The four names, each once, in any order. Four pieces among which each name is found hold no name twice.
-    pub fn read(heading: &[u8]) -> Option<Columns> {
+    pub(crate) fn read(heading: &[u8]) -> Option<Columns> {
         if marks(heading, b';') != 3 {
             return None;
         }

@@ -70,7 +70,7 @@ fn read_strike<I: Identifier, C: Content>(
 }
 
 // The entry of a value line, without its ending, or why there is none.
-pub fn read_entry<I: Identifier, C: Content>(
+pub(crate) fn read_entry<I: Identifier, C: Content>(
     values: &[u8],
     columns: Columns,
 ) -> Result<Entry<I, C>, Reason>

@@ -7,11 +7,11 @@ use patch::refusals::Refusal;
 // Room for `no`, a number, a place, the longest name and byte 10.
 pub type AnswerText = Text<64>;
 
-pub fn granted_text() -> &'static [u8] {
+pub(crate) fn granted_text() -> &'static [u8] {
     b"ok\n"
 }
 
-pub fn refused_text<I: Identifier>(refusal: &Refusal<I>) -> AnswerText {
+pub(crate) fn refused_text<I: Identifier>(refusal: &Refusal<I>) -> AnswerText {
     let mut text = Text::new();
     text.append(b"no ");
     text.append_number(refusal.reason.number());

@@ -66,7 +66,7 @@ fn judge<'t>(state: State<'t>, line: ScriptLine<'t>) -> (State<'t>, Option<Comma
         (State::Between, Saying::Unapply(id)) => (state, Some(Command::Unapply { id })),
         (State::Between, Saying::Page) => (state, Some(Command::Page)),
         (State::Between, _) => (state, Some(Command::Fault { line: line.number })),
-        (State::Inside { id, line: _, text }, Saying::End) => {
+        (State::Inside { id, text, .. }, Saying::End) => {
             (
                 State::Between,
                 Some(Command::Apply {
@@ -75,14 +75,7 @@ fn judge<'t>(state: State<'t>, line: ScriptLine<'t>) -> (State<'t>, Option<Comma
                 }),
             )
         }
-        (
-            State::Inside {
-                id: _,
-                line: _,
-                text: _,
-            },
-            _,
-        ) => (state, None),
+        (State::Inside { .. }, _) => (state, None),
     }
 }
 
@@ -137,11 +130,7 @@ impl<'t> Script<'t> {
         let unended = !self.rest.is_empty();
         self.rest = &[];
         match self.state {
-            State::Inside {
-                id: _,
-                line,
-                text: _,
-            } => {
+            State::Inside { line, .. } => {
                 self.state = State::Between;
                 Some(Command::Fault { line })
             }

@@ -18,7 +18,7 @@ pub struct ScriptLine<'t> {
     pub behind: &'t [u8],
 }
 
-pub fn read_saying<'t>(line: &'t [u8]) -> Saying<'t> {
+pub(crate) fn read_saying<'t>(line: &'t [u8]) -> Saying<'t> {
     if let Some(id) = line.strip_prefix(b"apply ") {
         return Saying::Apply(id);
     }

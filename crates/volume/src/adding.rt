@@ -32,7 +32,7 @@ fn add_entry<S: Store>(store: &mut S, patch: &S::Id, entry: &Entry<S::Id, S::Con
     };
 }
 
-pub fn add_entries<S: Store>(store: &mut S, patch: &S::Id, text: &Patch) {
+pub(crate) fn add_entries<S: Store>(store: &mut S, patch: &S::Id, text: &Patch) {
     let mut entries = text.entries();
     for _ in 0..MOST_ENTRIES {
         let Some(entry) = entries.next() else {

@@ -44,20 +44,17 @@ fn weight<I: Identifier, C: Content>(entry: &Entry<I, C>) -> Sizes
     ensures strikes { λ r. ⌜ r .strikes ≤ 1 ⌝ }
 {
     match entry {
-        Entry::Add {
-            line: _,
-            content: _,
-        } => Sizes {
+        Entry::Add { .. } => Sizes {
             lines: 1,
             links: 0,
             strikes: 0,
         },
-        Entry::Link { from: _, to: _ } => Sizes {
+        Entry::Link { .. } => Sizes {
             lines: 0,
             links: 1,
             strikes: 0,
         },
-        Entry::Strike { line: _ } => Sizes {
+        Entry::Strike { .. } => Sizes {
             lines: 0,
             links: 0,
             strikes: 1,
@@ -86,7 +83,11 @@ fn weigh<I: Identifier, C: Content>(text: &Patch) -> Sizes {
 }
 
 // Why the patch cannot be applied: it stands, the first fault of its entries, or a list that is too full.
-pub fn apply_fault<S: Store>(store: &S, patch: &S::Id, text: &Patch) -> Option<Refusal<S::Id>>
+pub(crate) fn apply_fault<S: Store>(
+    store: &S,
+    patch: &S::Id,
+    text: &Patch,
+) -> Option<Refusal<S::Id>>
     ensures fault { λ r. ⌜ found r Tabled ⌝ }
 {
     if stands(store, patch) {

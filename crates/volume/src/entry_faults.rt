@@ -16,8 +16,8 @@ use store::store::Store;
 // The name in the column `line`.
 fn first_name<I: Identifier, C: Content>(entry: &Entry<I, C>) -> LineName<I> {
     match entry {
-        Entry::Add { line, content: _ } => *line,
-        Entry::Link { from, to: _ } => *from,
+        Entry::Add { line, .. } => *line,
+        Entry::Link { from, .. } => *from,
         Entry::Strike { line } => *line,
     }
 }
@@ -25,7 +25,7 @@ fn first_name<I: Identifier, C: Content>(entry: &Entry<I, C>) -> LineName<I> {
 // A patch adds only its own lines, strikes only others', and links no line to itself.
 fn is_forbidden<I: Identifier, C: Content>(patch: &I, entry: &Entry<I, C>) -> bool {
     match entry {
-        Entry::Add { line, content: _ } => !line.belongs_to(patch),
+        Entry::Add { line, .. } => !line.belongs_to(patch),
         Entry::Link { from, to } => from.is(to),
         Entry::Strike { line } => line.belongs_to(patch),
     }
@@ -35,10 +35,10 @@ fn is_forbidden<I: Identifier, C: Content>(patch: &I, entry: &Entry<I, C>) -> bo
 fn same_entry<I: Identifier, C: Content>(one: &Entry<I, C>, other: &Entry<I, C>) -> bool {
     match (one, other) {
         (
-            Entry::Add { line, content: _ },
+            Entry::Add { line, .. },
             Entry::Add {
                 line: other_line,
-                content: _,
+                ..
             },
         ) => line.is(other_line),
         (
@@ -70,7 +70,7 @@ fn is_repeated<I: Identifier, C: Content>(text: &Patch, place: usize, entry: &En
 // Whether the entry adds the line.
 fn is_add_of<I: Identifier, C: Content>(entry: &Entry<I, C>, name: &LineName<I>) -> bool {
     match entry {
-        Entry::Add { line, content: _ } => line.is(name),
+        Entry::Add { line, .. } => line.is(name),
         _ => false,
     }
 }
@@ -127,13 +127,13 @@ fn names_fault<S: Store>(
         return fault;
     }
     match entry {
-        Entry::Link { from: _, to } => name_fault(store, patch, text, to),
+        Entry::Link { to, .. } => name_fault(store, patch, text, to),
         _ => None,
     }
 }
 
 // The first fault of the entry at a place counted from 0, whose line of the text is two more.
-pub fn entry_fault<S: Store>(
+pub(crate) fn entry_fault<S: Store>(
     store: &S,
     patch: &S::Id,
     text: &Patch,

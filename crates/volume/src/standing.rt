@@ -39,6 +39,6 @@ fn owns_strike<S: Store>(store: &S, patch: &S::Id) -> bool {
     false
 }
 
-pub fn stands<S: Store>(store: &S, patch: &S::Id) -> bool {
+pub(crate) fn stands<S: Store>(store: &S, patch: &S::Id) -> bool {
     has_line(store, patch) || owns_link(store, patch) || owns_strike(store, patch)
 }

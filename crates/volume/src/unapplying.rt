@@ -65,7 +65,7 @@ fn least_among_strikes<S: Store>(store: &S, patch: &S::Id, start: Option<S::Id>)
 }
 
 // Why the patch cannot be unapplied: it does not stand, or another standing patch names a line of it.
-pub fn unapply_fault<S: Store>(store: &S, patch: &S::Id) -> Option<Refusal<S::Id>>
+pub(crate) fn unapply_fault<S: Store>(store: &S, patch: &S::Id) -> Option<Refusal<S::Id>>
     ensures fault { λ r. ⌜ found r Tabled ⌝ }
 {
     if !stands(store, patch) {
