@@ -1,10 +1,9 @@
-ghost use mathlib.Core.Bool.{cond};
-ghost use mathlib.Core.List.{[], _∷_, _++_};
+ghost use mathlib.Core.List.{[]};
 ghost use mathlib.Core.Path.{_≡_};
 ghost use Prim.Native.Nat.{_≤_};
-ghost use lib.Dec.{ltb};
 ghost use lib.ListN.{length, take};
-ghost use Rattle.kinds.specs.Shown.{shown};
+ghost use Rattle.std.specs.Written.{decimal};
+ghost use Rattle.kinds.specs.Shown.{filled, pushed, shown};
 use super::Text;
 
 impl<const N: usize> Text<N> {
@@ -19,7 +18,7 @@ impl<const N: usize> Text<N> {
 
     // One byte more. A text that is full stays as it is.
     pub fn push(&mut self, byte: u8)
-        ensures { λ _. ⌜ shown (now (self .exit)) ≡ cond (ltb (length (shown (now (self .entry)))) N) (shown (now (self .entry)) ++ byte ∷ []) (shown (now (self .entry))) ⌝ }
+        ensures { λ _. ⌜ shown (now (self .exit)) ≡ pushed N (shown (now (self .entry))) byte ⌝ }
     {
         let at = self.len();
         if at < N {
@@ -29,17 +28,23 @@ impl<const N: usize> Text<N> {
     }
 
     // These bytes behind the text, as many as there is room for.
-    pub fn append(&mut self, bytes: &[u8]) {
+    pub fn append(&mut self, bytes: &[u8])
+        ensures { λ _. ⌜ shown (now (self .exit)) ≡ filled N (shown (now (self .entry))) (now (bytes .entry)) ⌝ }
+    {
         for byte in bytes {
             self.push(*byte);
         }
     }
 
     // A number in decimal behind the text.
-    pub fn append_number(&mut self, number: usize) {
-        if 9 < number {
-            self.append_number(number / 10);
+    pub fn append_number(&mut self, number: usize)
+        ensures { λ _. ⌜ shown (now (self .exit)) ≡ filled N (shown (now (self .entry))) (decimal number) ⌝ }
+    {
+        if number < 10 {
+            self.push(b'0' + number as u8);
+            return;
         }
+        self.append_number(number / 10);
         self.push(b'0' + (number % 10) as u8);
     }
 
