@@ -1,3 +1,8 @@
+ghost use mathlib.Core.List.{[]};
+ghost use mathlib.Core.Path.{_≡_};
+ghost use Prim.Native.Nat.{min};
+ghost use lib.ListN.{length};
+ghost use Rattle.flat.specs.Items.{items, room};
 use crate::table::Table;
 use kinds::content::Content;
 use kinds::identifier::Identifier;
@@ -31,7 +36,11 @@ impl<'m, I: Identifier, C: Content> FlatStore<'m, I, C> {
         lines: &'m mut [Line<I, C>],
         links: &'m mut [Link<I>],
         strikes: &'m mut [Strike<I>],
-    ) -> FlatStore<'m, I, C> {
+    ) -> FlatStore<'m, I, C>
+        ensures lines { λ r. ⌜ (items (r .lines) ≡ []) × (room (r .lines) ≡ min 256 (length (now (lines .entry)))) ⌝ }
+        ensures links { λ r. ⌜ (items (r .links) ≡ []) × (room (r .links) ≡ min 1024 (length (now (links .entry)))) ⌝ }
+        ensures strikes { λ r. ⌜ (items (r .strikes) ≡ []) × (room (r .strikes) ≡ min 512 (length (now (strikes .entry)))) ⌝ }
+    {
         FlatStore {
             lines: Table::new(lines, MOST_LINES),
             links: Table::new(links, MOST_LINKS),

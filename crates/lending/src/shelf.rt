@@ -1,3 +1,6 @@
+ghost use mathlib.Core.List.{[]};
+ghost use mathlib.Core.Path.{_≡_};
+ghost use Rattle.flat.specs.Items.{items, room};
 use crate::memory::LoanLine;
 use crate::memory::LoanLink;
 use crate::memory::LoanStrike;
@@ -35,7 +38,10 @@ impl Shelf {
     }
 
     // An empty volume over this memory.
-    pub fn volume(&mut self) -> LoanVolume<'_> {
+    pub fn volume(&mut self) -> LoanVolume<'_>
+        ensures empty { λ r. ⌜ (items (r .store .lines) ≡ []) × (items (r .store .links) ≡ []) × (items (r .store .strikes) ≡ []) ⌝ }
+        ensures capacity { λ r. ⌜ (room (r .store .lines) ≡ 256) × (room (r .store .links) ≡ 1024) × (room (r .store .strikes) ≡ 512) ⌝ }
+    {
         let Shelf {
             lines,
             links,

@@ -3,6 +3,7 @@ ghost use mathlib.Core.Path.{_≡_};
 ghost use Prim.Native.Nat.{_+_, _≤_, min};
 ghost use lib.ListN.{length, take};
 ghost use Rattle.std.specs.Finite.{nth};
+ghost use Rattle.std.specs.Vec.{made, refused};
 ghost use Rattle.flat.specs.Items.{items, room};
 use super::Table;
 use crate::slots::keep_others;
@@ -75,6 +76,8 @@ impl<'m, R: Record> Table<'m, R> {
     // Adds the record at its place, unless its key is there or the table is full.
     pub fn insert(&mut self, added: R) -> Result<(), Unadded>
         ensures room { λ _. ⌜ room (now (self .exit)) ≡ room (now (self .entry)) ⌝ }
+        ensures more { λ r. ⌜ made r (λ _. length (items (now (self .exit))) ≡ length (items (now (self .entry))) + 1) ⌝ }
+        ensures same { λ r. ⌜ refused r (λ _. items (now (self .exit)) ≡ items (now (self .entry))) ⌝ }
     {
         match seek(self.all(), &added.key()) {
             Ok(_) => Err(Unadded::Present),
