@@ -4,19 +4,10 @@ use crate::branch::MOST_BRANCHES;
 use crate::branch::MOST_SERIALS;
 use crate::identifier::Identifier;
 use crate::numbers::read_number;
+use crate::pieces::split_first;
 use crate::text::ShortText;
 use crate::text::Text;
 use std::cmp::Ordering;
-
-// How many bytes stand before the first dot.
-fn before_dot(text: &[u8]) -> usize {
-    for (at, byte) in text.iter().enumerate() {
-        if *byte == b'.' {
-            return at;
-        }
-    }
-    text.len()
-}
 
 pub impl Identifier for BranchNumber as BranchIdentifier {
     // The text `999.65535`.
@@ -26,12 +17,9 @@ pub impl Identifier for BranchNumber as BranchIdentifier {
         if Self::LONGEST < text.len() {
             return None;
         }
-        let dot = before_dot(text);
-        if text.len() <= dot {
-            return None;
-        }
-        let branch = read_number(&text[0..dot], MOST_BRANCHES)?;
-        let serial = read_number(&text[dot + 1..], MOST_SERIALS)?;
+        let (branch, serial) = split_first(text, b'.')?;
+        let branch = read_number(branch, MOST_BRANCHES)?;
+        let serial = read_number(serial, MOST_SERIALS)?;
         BranchNumber::new(branch, serial)
     }
 

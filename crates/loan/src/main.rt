@@ -6,13 +6,14 @@ use kinds::branches::BranchIdentifier;
 use kinds::text_line::TextLineContent;
 use lending::shelf::Shelf;
 use page::sheet::Sheet;
+use script::machine::LONGEST_SCRIPT;
 use script::machine::Script;
 use script::tool::perform;
 use std::io::Read;
 use std::io::Write;
 
 // One byte more than the longest script, to tell one that is too long.
-const MOST_INPUT: usize = 32_769;
+const MOST_INPUT: usize = LONGEST_SCRIPT + 1;
 
 // Fills the memory from standard input as far as the input goes, and says how far. An input that fails ends there.
 fn read_input(rt: &LibcRuntime, memory: &mut [u8]) -> usize

@@ -1,6 +1,6 @@
 // The order of the columns, from line 1 of a patch text.
-use crate::pieces::marks;
-use crate::pieces::piece;
+use kinds::pieces::marks;
+use kinds::pieces::piece;
 
 // At which place of a value line each value stands.
 #[derive(Clone, Copy)]

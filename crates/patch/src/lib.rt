@@ -2,7 +2,6 @@
 mod columns;
 pub mod entries;
 pub mod names;
-pub mod pieces;
 pub mod reader;
 pub mod refusals;
 mod values;

@@ -1,5 +1,5 @@
 // A line's name: the identifier of the patch that it belongs to, a colon, and an index from 0 to 255.
-use crate::pieces::split_first;
+use kinds::pieces::split_first;
 use kinds::identifier::Identifier;
 use kinds::numbers::read_number;
 use kinds::text::Text;

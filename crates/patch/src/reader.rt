@@ -7,7 +7,7 @@ ghost use Rattle.patch.specs.Refusals.{Tabled, Value-line};
 use crate::columns::Columns;
 use crate::entries::Entry;
 use crate::entries::MOST_ENTRIES;
-use crate::pieces::split_first;
+use kinds::pieces::split_first;
 use crate::refusals::Layer;
 use crate::refusals::Reason;
 use crate::refusals::Refusal;

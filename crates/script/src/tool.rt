@@ -20,10 +20,12 @@ pub fn script_fault<I>(line: usize) -> Refusal<I>
     Refusal::plain(Reason::BadScript, line, Layer::Tool)
 }
 
-// Writes the page on the sheet.
-fn show_page<S: Store>(volume: &Volume<S>, sheet: &mut Sheet) -> Result<(), Refusal<S::Id>> {
-    sheet.len = volume.page(&mut sheet.bytes[..])?;
-    Ok(())
+// Leaves the page on the sheet. It has room for every page, so none is refused.
+fn show_page<S: Store>(volume: &Volume<S>, sheet: &mut Sheet) {
+    match volume.page(&mut sheet.bytes[..]) {
+        Ok(len) => sheet.len = len,
+        Err(refusal) => sheet.set(refused_text(&refusal).as_slice()),
+    }
 }
 
 // Does the command, and leaves on the sheet what it prints: the page, `ok`, or the refusal.
@@ -31,15 +33,11 @@ pub fn perform<S: Store>(volume: &mut Volume<S>, command: Command, sheet: &mut S
     let answer = match command {
         Command::Apply { id, text } => volume.apply(id, text),
         Command::Unapply { id } => volume.unapply(id),
-        Command::Page => show_page(volume, sheet),
         Command::Fault { line } => Err(script_fault(line)),
+        Command::Page => return show_page(volume, sheet),
     };
     match answer {
+        Ok(()) => sheet.set(granted_text()),
         Err(refusal) => sheet.set(refused_text(&refusal).as_slice()),
-        Ok(()) => {
-            if !matches!(command, Command::Page) {
-                sheet.set(granted_text());
-            }
-        }
     }
 }
