@@ -2,7 +2,7 @@ ghost use Prim.Native.Nat.{_<_, _≤_};
 ghost use lib.ListN.{drop, length};
 ghost use mathlib.Core.Path.{_≡_};
 ghost use Rattle.std.specs.Vec.{made, refused};
-ghost use Rattle.patch.specs.Refusals.{Tabled};
+ghost use Rattle.patch.specs.Refusals.{Tabled, page-gives};
 use crate::listing::list;
 use crate::live::live_lines;
 use crate::text::fill;
@@ -20,7 +20,7 @@ pub fn write_page<S: Store>(store: &S, memory: &mut [u8]) -> Result<usize, Refus
     ensures bound { λ r. ⌜ made r (λ n. n ≤ 28698) ⌝ }
     ensures fits { λ r. ⌜ made r (λ n. n ≤ length (now (memory .entry))) ⌝ }
     ensures rest { λ r. ⌜ made r (λ n. drop n (now (memory .exit)) ≡ drop n (now (memory .entry))) ⌝ }
-    ensures fault { λ r. ⌜ refused r Tabled ⌝ }
+    ensures fault { λ r. ⌜ refused r (Tabled page-gives) ⌝ }
     ensures short { λ r. ⌜ refused r (λ f. length (now (memory .entry)) < f .place) ⌝ }
     ensures same { λ r. ⌜ refused r (λ _. now (memory .exit) ≡ now (memory .entry)) ⌝ }
 {

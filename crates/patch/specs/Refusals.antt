@@ -1,7 +1,9 @@
 -- The table of refusals: the number of each reason, the layer that gives it, what it points at and where it is placed.
+use mathlib.Core.Bool.{Bool, true, _&&_, _||_}
 use mathlib.Core.Logic.{_⊎_}
 use mathlib.Core.Path.{_≡_}
 use Prim.Native.Nat.{ℕ, _≤_}
+use lib.Dec.{eqb, ltb}
 use Rattle.patch.specs.declared.refusals.Cause.{Cause}
 use Rattle.patch.specs.declared.refusals.Cause.the-variants as cause
 use Rattle.patch.specs.declared.refusals.Layer.{Layer}
@@ -109,10 +111,28 @@ Placed IsNamed p = p ≡ 0
 Placed ShortMemory p = (26 ≤ p) × (p ≤ 28698)
 Placed BadScript p = p ≤ 32768
 
--- a refusal is one of the table's
-abbrev pub Tabled : {I : Type 0} → Refusal I → Type 0
-Tabled r = (r .layer ≡ layer-of (r .reason)) × (sort-of (r .cause) ≡ points-at (r .reason)) × Placed (r .reason) (r .place)
+-- which reasons each call gives: apply 1 to 11, unapply 1, 12 and 13, page 14
+abbrev pub apply-gives : Reason → Bool
+apply-gives n = ltb (number-of n) 12
+
+abbrev pub unapply-gives : Reason → Bool
+unapply-gives n = eqb (number-of n) 1 || (ltb 11 (number-of n) && ltb (number-of n) 14)
+
+abbrev pub page-gives : Reason → Bool
+page-gives n = eqb (number-of n) 14
+
+-- a refusal is one of the table's, for a reason that the call gives
+abbrev pub Tabled : {I : Type 0} → (Reason → Bool) → Refusal I → Type 0
+Tabled gives r =
+    (gives (r .reason) ≡ true)
+    × (r .layer ≡ layer-of (r .reason))
+    × (sort-of (r .cause) ≡ points-at (r .reason))
+    × Placed (r .reason) (r .place)
 
 -- a reason that this layer gives of a value line, with a cause of this sort
 abbrev pub Line-fault : Layer → Sort → Reason → Type 0
-Line-fault l s n = (layer-of n ≡ l) × (points-at n ≡ s) × ((p : ℕ) → Value-line p → Placed n p)
+Line-fault l s n =
+    (apply-gives n ≡ true)
+    × (layer-of n ≡ l)
+    × (points-at n ≡ s)
+    × ((p : ℕ) → Value-line p → Placed n p)

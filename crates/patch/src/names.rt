@@ -1,7 +1,7 @@
 // A line's name: the identifier of the patch that it belongs to, a colon, and an index from 0 to 255.
-use kinds::pieces::split_first;
 use kinds::identifier::Identifier;
 use kinds::numbers::read_number;
+use kinds::pieces::split_first;
 use kinds::text::Text;
 use std::cmp::Ordering;
 

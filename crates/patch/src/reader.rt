@@ -3,17 +3,17 @@ ghost use mathlib.Core.Path.{_≡_};
 ghost use Rattle.std.specs.Vec.{refused};
 ghost use Rattle.patch.specs.declared.refusals.Cause.the-variants.{Nothing};
 ghost use Rattle.patch.specs.declared.refusals.Layer.the-variants.{Reader};
-ghost use Rattle.patch.specs.Refusals.{Tabled, Value-line};
+ghost use Rattle.patch.specs.Refusals.{Tabled, Value-line, apply-gives};
 use crate::columns::Columns;
 use crate::entries::Entry;
 use crate::entries::MOST_ENTRIES;
-use kinds::pieces::split_first;
 use crate::refusals::Layer;
 use crate::refusals::Reason;
 use crate::refusals::Refusal;
 use crate::values::read_entry;
 use kinds::content::Content;
 use kinds::identifier::Identifier;
+use kinds::pieces::split_first;
 
 // A patch text without fault: its value lines, and the order of their columns. The entries are read off it one by one.
 #[derive(Clone, Copy)]
@@ -42,7 +42,7 @@ fn check_line<'t, I: Identifier, C: Content>(
     line: usize,
 ) -> Result<&'t [u8], Refusal<I>>
     requires { ⌜ Value-line line ⌝ }
-    ensures fault { λ r. ⌜ refused r Tabled ⌝ }
+    ensures fault { λ r. ⌜ refused r (Tabled apply-gives) ⌝ }
 {
     let Some((values, behind)) = split_first(rest, b'\n') else {
         return Err(fault(Reason::BadValueLine, line));
@@ -58,7 +58,7 @@ fn check_values<I: Identifier, C: Content>(
     values: &[u8],
     columns: Columns,
 ) -> Result<(), Refusal<I>>
-    ensures fault { λ r. ⌜ refused r Tabled ⌝ }
+    ensures fault { λ r. ⌜ refused r (Tabled apply-gives) ⌝ }
 {
     if values.is_empty() {
         return Err(fault(Reason::BadCount, 2));
@@ -80,7 +80,7 @@ fn check_values<I: Identifier, C: Content>(
 impl<'t> Patch<'t> {
     // The patch that a text writes, or the text's first fault.
     pub fn read<I: Identifier, C: Content>(text: &'t [u8]) -> Result<Patch<'t>, Refusal<I>>
-        ensures fault { λ r. ⌜ refused r Tabled ⌝ }
+        ensures fault { λ r. ⌜ refused r (Tabled apply-gives) ⌝ }
     {
         let Some((heading, values)) = split_first(text, b'\n') else {
             return Err(fault(Reason::BadHeading, 1));

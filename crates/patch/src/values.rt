@@ -6,11 +6,11 @@ ghost use Rattle.patch.specs.Refusals.Sort.{nothing};
 use crate::columns::Columns;
 use crate::entries::Entry;
 use crate::names::LineName;
-use kinds::pieces::marks;
-use kinds::pieces::piece;
 use crate::refusals::Reason;
 use kinds::content::Content;
 use kinds::identifier::Identifier;
+use kinds::pieces::marks;
+use kinds::pieces::piece;
 
 fn read_add<I: Identifier, C: Content>(
     line: &[u8],

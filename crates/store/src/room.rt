@@ -3,7 +3,7 @@ ghost use mathlib.Core.Path.{_≡_};
 ghost use Prim.Native.Nat.{_+_, _<_};
 ghost use lib.Dec.{ltb};
 ghost use Rattle.std.specs.Slices.{found};
-ghost use Rattle.patch.specs.Refusals.{Tabled};
+ghost use Rattle.patch.specs.Refusals.{Tabled, apply-gives};
 use crate::sizes::Sizes;
 use crate::store::Store;
 use patch::refusals::Layer;
@@ -18,7 +18,7 @@ fn passes(count: usize, more: usize, capacity: usize) -> bool
 
 // The refusal of so many records more, at the first list that would pass its capacity: 1 lines, 2 links, 3 strikes.
 pub fn room_fault<S: Store>(store: &S, more: Sizes) -> Option<Refusal<S::Id>>
-    ensures fault { λ r. ⌜ found r Tabled ⌝ }
+    ensures fault { λ r. ⌜ found r (Tabled apply-gives) ⌝ }
 {
     let counts = store.counts();
     let capacities = store.capacities();

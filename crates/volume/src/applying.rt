@@ -1,7 +1,7 @@
 // The tests of apply, after the patch text is read.
 ghost use Prim.Native.Nat.{_≤_};
 ghost use Rattle.std.specs.Slices.{found};
-ghost use Rattle.patch.specs.Refusals.{Tabled};
+ghost use Rattle.patch.specs.Refusals.{Tabled, apply-gives};
 use crate::entry_faults::entry_fault;
 use crate::standing::stands;
 use kinds::content::Content;
@@ -18,7 +18,7 @@ use store::sizes::Sizes;
 use store::store::Store;
 
 fn entries_fault<S: Store>(store: &S, patch: &S::Id, text: &Patch) -> Option<Refusal<S::Id>>
-    ensures fault { λ r. ⌜ found r Tabled ⌝ }
+    ensures fault { λ r. ⌜ found r (Tabled apply-gives) ⌝ }
 {
     let mut entries = text.entries();
     for place in 0..MOST_ENTRIES {
@@ -88,7 +88,7 @@ pub(crate) fn apply_fault<S: Store>(
     patch: &S::Id,
     text: &Patch,
 ) -> Option<Refusal<S::Id>>
-    ensures fault { λ r. ⌜ found r Tabled ⌝ }
+    ensures fault { λ r. ⌜ found r (Tabled apply-gives) ⌝ }
 {
     if stands(store, patch) {
         return Some(Refusal {

@@ -1,6 +1,6 @@
 // The tests of unapply.
 ghost use Rattle.std.specs.Slices.{found};
-ghost use Rattle.patch.specs.Refusals.{Tabled};
+ghost use Rattle.patch.specs.Refusals.{Tabled, unapply-gives};
 use crate::standing::stands;
 use kinds::identifier::Identifier;
 use patch::refusals::Cause;
@@ -66,7 +66,7 @@ fn least_among_strikes<S: Store>(store: &S, patch: &S::Id, start: Option<S::Id>)
 
 // Why the patch cannot be unapplied: it does not stand, or another standing patch names a line of it.
 pub(crate) fn unapply_fault<S: Store>(store: &S, patch: &S::Id) -> Option<Refusal<S::Id>>
-    ensures fault { λ r. ⌜ found r Tabled ⌝ }
+    ensures fault { λ r. ⌜ found r (Tabled unapply-gives) ⌝ }
 {
     if !stands(store, patch) {
         return Some(Refusal {

@@ -2,7 +2,7 @@ ghost use mathlib.Core.Path.{_≡_};
 ghost use Prim.Native.Nat.{_<_, _≤_};
 ghost use lib.ListN.{drop, length};
 ghost use Rattle.std.specs.Vec.{made, refused};
-ghost use Rattle.patch.specs.Refusals.{Tabled};
+ghost use Rattle.patch.specs.Refusals.{Tabled, apply-gives, page-gives, unapply-gives};
 use crate::adding::add_entries;
 use crate::applying::apply_fault;
 use crate::unapplying::unapply_fault;
@@ -21,7 +21,8 @@ pub struct Volume<S> {
 }
 
 fn read_identifier<I: Identifier>(text: &[u8]) -> Result<I, Refusal<I>>
-    ensures fault { λ r. ⌜ refused r Tabled ⌝ }
+    ensures apply { λ r. ⌜ refused r (Tabled apply-gives) ⌝ }
+    ensures unapply { λ r. ⌜ refused r (Tabled unapply-gives) ⌝ }
 {
     match I::read(text) {
         Some(patch) => Ok(patch),
@@ -38,7 +39,7 @@ impl<S: Store> Volume<S> {
 
     // Takes a patch: it stands from now on. A refusal changes nothing.
     pub fn apply(&mut self, id: &[u8], text: &[u8]) -> Result<(), Refusal<S::Id>>
-        ensures fault { λ r. ⌜ refused r Tabled ⌝ }
+        ensures fault { λ r. ⌜ refused r (Tabled apply-gives) ⌝ }
         ensures same { λ r. ⌜ refused r (λ _. now (self .exit) ≡ now (self .entry)) ⌝ }
     {
         let patch = read_identifier(id)?;
@@ -52,7 +53,7 @@ impl<S: Store> Volume<S> {
 
     // Takes a patch back: it stands no longer. A refusal changes nothing.
     pub fn unapply(&mut self, id: &[u8]) -> Result<(), Refusal<S::Id>>
-        ensures fault { λ r. ⌜ refused r Tabled ⌝ }
+        ensures fault { λ r. ⌜ refused r (Tabled unapply-gives) ⌝ }
         ensures same { λ r. ⌜ refused r (λ _. now (self .exit) ≡ now (self .entry)) ⌝ }
     {
         let patch = read_identifier(id)?;
@@ -69,7 +70,7 @@ impl<S: Store> Volume<S> {
         ensures bound { λ r. ⌜ made r (λ n. n ≤ 28698) ⌝ }
         ensures fits { λ r. ⌜ made r (λ n. n ≤ length (now (memory .entry))) ⌝ }
         ensures rest { λ r. ⌜ made r (λ n. drop n (now (memory .exit)) ≡ drop n (now (memory .entry))) ⌝ }
-        ensures fault { λ r. ⌜ refused r Tabled ⌝ }
+        ensures fault { λ r. ⌜ refused r (Tabled page-gives) ⌝ }
         ensures short { λ r. ⌜ refused r (λ f. length (now (memory .entry)) < f .place) ⌝ }
         ensures same { λ r. ⌜ refused r (λ _. now (memory .exit) ≡ now (memory .entry)) ⌝ }
     {

@@ -1,7 +1,7 @@
 // Pages as they are printed, counted and laid side by side.
 use crate::words::as_text;
-use page::sheet::Sheet;
 use kinds::pieces::piece;
+use page::sheet::Sheet;
 use std::io;
 
 // How many lines of the page stand in a fork. The kind of a block is the second piece of a line.

@@ -5,7 +5,7 @@ use lib.ListN.{length, take}
 use borrow.Rule.Slice.PartMut.{post-is}
 use Rattle.std.proofs.shelf.Lists.{drop-at, length-take-le}
 use Rattle.patch.specs.declared.refusals.Refusal.{Refusal}
-use Rattle.patch.specs.Refusals.{Tabled}
+use Rattle.patch.specs.Refusals.{Tabled, page-gives}
 use Rattle.page.proofs.page.write_page.Needs as need
 
 pub returns-then-memory-needed : need.returns-then-memory-needed
@@ -16,7 +16,7 @@ returns-then-memory-needed g c =
       bound = tt;
       fits = tt;
       rest = tt;
-      fault = subst Tabled is (refl, refl, (needed .least, needed .bound));
+      fault = subst (Tabled page-gives) is (refl, refl, refl, (needed .least, needed .bound));
       short = subst (λ f. length (c .args .memory .now) < f .place) is (c .if-memory-needed .taken);
       same = refl;
     }
