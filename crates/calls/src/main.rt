@@ -1,4 +1,6 @@
 // Calls of the library with every kind of refusal, all four fields of each, and what memory and volume hold afterwards.
+#![tactic(auto)]
+
 mod cases;
 mod memory;
 mod show;

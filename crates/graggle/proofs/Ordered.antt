@@ -1,7 +1,7 @@
 -- Orders that are total: of numbers, of texts by their bytes, and of pairs by their parts.
 use Rattle.std.proofs.Common.{◌≡◌, ℕ, ◌<◌, Bool, true, false, List, [], ◌∷◌, Ordering, Less, Equal, Greater, sym, refl, ap, ◌∙◌, subst, ap₂, true≢false}
 use Rattle.std.specs.Ordering.{is_lt, is_gt, ordering_reverse, ordering_then, MatchOrdering, nat_cmp}
-use Rattle.std.specs.Cmp.{ranks, nat_cmp_total}
+use Rattle.std.specs.Cmp.{ranks, nat_cmp_total, tied_itself}
 use Rattle.graggle.specs.Texts.{Text}
 use Rattle.graggle.specs.Orders.{Total, by_bytes}
 use Rattle.graggle.specs.Names.{Name, name_order}
@@ -11,7 +11,7 @@ pub number_equal : (m n : ℕ) → nat_cmp m n ≡ Equal → m ≡ n
 number_equal m n e = subst (λ (o : Ordering). MatchOrdering o (m < n) (m ≡ n) (n < m)) e (ranks m n)
 
 pub number_same : (n : ℕ) → nat_cmp n n ≡ Equal
-number_same n = sym (nat_cmp_total.says n n Equal refl)
+number_same n = tied_itself nat_cmp_total n
 
 pub numbers_total : (P : ℕ → Type 0) → Total P nat_cmp
 numbers_total P = record {

@@ -1,4 +1,6 @@
 // Kinds of identifiers and of contents.
+#![tactic(auto)]
+
 pub mod branch;
 pub mod branches;
 pub mod content;

@@ -1,4 +1,6 @@
 // Tables of lawful and unlawful texts for each kind, at every limit.
+#![tactic(auto)]
+
 mod branches;
 mod fingerprints;
 mod lines;

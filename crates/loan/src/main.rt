@@ -1,4 +1,6 @@
 // The loan tool: reads a script from standard input, and prints the answer of each command.
+#![tactic(auto)]
+
 ghost use Rattle.std.specs.Prelude.{◌≤◌, length};
 
 use kinds::content::Content;

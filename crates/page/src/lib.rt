@@ -1,4 +1,6 @@
 // The page: the live lines of a store, listed in blocks and knots.
+#![tactic(auto)]
+
 mod lister;
 pub mod listing;
 mod live;

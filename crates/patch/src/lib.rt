@@ -1,4 +1,6 @@
 // Patches: line names, entries, refusals, and the reader of patch texts.
+#![tactic(auto)]
+
 mod columns;
 pub mod entries;
 pub mod names;

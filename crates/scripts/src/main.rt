@@ -1,4 +1,6 @@
 // Runs the scripts of data/, each over an empty volume, and holds what it prints to the file beside it.
+#![tactic(auto)]
+
 use kinds::content::Content;
 use kinds::identifier::Identifier;
 use lending::shelf::Shelf;

@@ -1,4 +1,6 @@
 // A volume over any store: apply, unapply and page.
+#![tactic(auto)]
+
 mod adding;
 mod applying;
 mod entry_faults;

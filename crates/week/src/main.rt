@@ -1,4 +1,6 @@
 // A week of the loan text in three houses, told action by action.
+#![tactic(auto)]
+
 mod days;
 mod houses;
 mod patches;
