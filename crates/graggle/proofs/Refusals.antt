@@ -8,18 +8,18 @@ use Rattle.graggle.specs.Entries.{Entry, Reading, Column, title}
 use Rattle.graggle.specs.Entries.Entry.{adds, links, strikes}
 use Rattle.graggle.specs.Entries.Reading.{unread, entries}
 use Rattle.graggle.specs.Entries.Column.{act, line, to, text}
-use Rattle.graggle.specs.Reading.{Act, Said, act_of, found, cell, adding, linking, striking, entry, value_line, heads_fit, more, then, last, values, lines, read}
+use Rattle.graggle.specs.Reading.{Act, Said, act_of, found, cell, adding, linking, striking, entry, value_line, heads_fit, then, last, values, lines, read}
 use Rattle.graggle.specs.Reading.Act.{add, link, strike}
 use Rattle.graggle.specs.Reading.Said.{wrong, says}
-use Rattle.graggle.specs.Writing.{value_in, heading, line_text, written, Order, Well}
-use Rattle.graggle.specs.Claims.{Plain, Formed, IllFormed, Unlawful, Why, Refused}
+use Rattle.graggle.specs.Writing.{value_in, heading, line_text, Order, Well}
+use Rattle.graggle.specs.Claims.{Plain, IllFormed, Unlawful, Why, Refused}
 use Rattle.graggle.specs.Claims.Why.{no_line, too_many, unended, ill_formed, unlawful}
 use Rattle.graggle.specs.Claims.Refused.{at_heading, at_line}
 use Rattle.graggle.proofs.Splitting.{SomePiece, some_piece, join_split, split_free, split_off}
 use Rattle.graggle.proofs.Splitting.SomePiece.{pieces}
 use Rattle.graggle.proofs.Naming.{name_from}
 use Rattle.graggle.proofs.Columns.{Heads, heads_from, heads_written, cells_are}
-use Rattle.graggle.proofs.ValueLines.{blank_is, act_text, act_is, map_same, outcome, line_from, line_outcome, heading_split, heading_free}
+use Rattle.graggle.proofs.ValueLines.{blank_is, act_is, map_same, outcome, line_from, line_outcome, heading_split, heading_free}
 
 cond_wrong : (t : Bool) (s : Said) (k m : ℕ) → cond t s (wrong k) ≡ wrong m → ((t ≡ true) × (s ≡ wrong m)) ⊎ ((t ≡ false) × (k ≡ m))
 cond_wrong true s k m h = inl (refl, h)

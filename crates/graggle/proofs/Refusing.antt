@@ -1,20 +1,20 @@
 -- A text whose first fault is known is refused for it.
-use Rattle.std.proofs.Common.{◌≡◌, ℕ, zero, suc, ◌+◌, ◌<◌, ◌≤◌, Bool, true, false, cond, eqb, ◌⊎◌, List, [], ◌∷◌, ◌++◌, map, length, sym, refl, ap, ◌∙◌, subst, inl, inr, ⊎_elim, append_assoc, arith}
+use Rattle.std.proofs.Common.{◌≡◌, ℕ, suc, ◌+◌, ◌<◌, ◌≤◌, Bool, cond, eqb, List, [], ◌∷◌, ◌++◌, map, length, sym, refl, ap, ◌∙◌, ⊎_elim, append_assoc, arith}
 use Rattle.std.specs.List.{AllByRecursion as All}
 use Rattle.std.proofs.lemmas.Bool.{cond-true, cond-false, cond_both, eq-eqb, ne_eqb}
 use Rattle.graggle.specs.Texts.{Text, split, join, ended, Free}
-use Rattle.graggle.specs.Entries.{Entry, Reading, Column, title}
+use Rattle.graggle.specs.Entries.{Entry, Column, title}
 use Rattle.graggle.specs.Entries.Entry.{adds}
-use Rattle.graggle.specs.Entries.Reading.{unread, entries}
-use Rattle.graggle.specs.Reading.{Said, found, value_line, heads_fit, more, then, last, values, lines, read}
+use Rattle.graggle.specs.Entries.Reading.{unread}
+use Rattle.graggle.specs.Reading.{Said, found, value_line, heads_fit, then, last, values, lines, read}
 use Rattle.graggle.specs.Reading.Said.{wrong, says}
 use Rattle.graggle.specs.Writing.{heading, line_text, written, Order, Well}
-use Rattle.graggle.specs.Claims.{Plain, IllFormed, Unlawful, Why, Refused, RefusesTheFirstFault}
+use Rattle.graggle.specs.Claims.{Plain, IllFormed, Why, Refused, RefusesTheFirstFault}
 use Rattle.graggle.specs.Claims.Why.{no_line, too_many, unended, ill_formed, unlawful}
 use Rattle.graggle.specs.Claims.Refused.{at_heading, at_line}
-use Rattle.graggle.proofs.Splitting.{SomePiece, some_piece, join_split, split_free, split_off, split_whole}
+use Rattle.graggle.proofs.Splitting.{SomePiece, some_piece, join_split, split_off, split_whole}
 use Rattle.graggle.proofs.Splitting.SomePiece.{pieces}
-use Rattle.graggle.proofs.Columns.{Heads, heads_from, heads_written}
+use Rattle.graggle.proofs.Columns.{heads_from, heads_written}
 use Rattle.graggle.proofs.ValueLines.{formed, line_from, line_free, line_says, line_outcome, heading_split, heading_free}
 use Rattle.graggle.proofs.Whole.{values_step}
 use Rattle.graggle.proofs.Refusals.{line_wrong, first_fault}

@@ -1,8 +1,8 @@
 -- A value line: read just where it is written.
-use Rattle.std.proofs.Common.{◌≡◌, ℕ, suc, ◌+◌, ◌<◌, ◌≤◌, Bool, true, false, cond, eqb, ◌⊎◌, List, [], ◌∷◌, ◌++◌, map, length, get_or, Some, None, decimal, Option, sym, refl, ap, ◌∙◌, subst, inl, inr, ⊎_elim, arith}
+use Rattle.std.proofs.Common.{◌≡◌, ℕ, Bool, true, false, cond, eqb, List, [], ◌∷◌, map, length, Some, None, decimal, Option, sym, refl, ap, ◌∙◌, subst, arith}
 use Rattle.std.specs.List.{AllByRecursion as All}
-use Rattle.std.proofs.lemmas.Bool.{cond_both, cond-true, cond-false, and_parts, and_from, eqb-true, eq-eqb}
-use Rattle.std.proofs.ByRecursion.{All-append, All-map}
+use Rattle.std.proofs.lemmas.Bool.{cond_both, cond-true, eqb-true, eq-eqb}
+use Rattle.std.proofs.ByRecursion.{All-append}
 use Rattle.std.proofs.lemmas.List.{length-map}
 use Rattle.graggle.specs.Texts.{Text, split, join, blank, Free}
 use Rattle.graggle.specs.Names.{Name, name, name_text, WellNamed}
@@ -13,7 +13,7 @@ use Rattle.graggle.specs.Reading.{Act, Said, letter, act_of, found, cell, adding
 use Rattle.graggle.specs.Reading.Act.{add, link, strike}
 use Rattle.graggle.specs.Reading.Said.{wrong, says}
 use Rattle.graggle.specs.Writing.{value_in, line_text, Order, Well}
-use Rattle.graggle.specs.Claims.{Plain, Formed, Unlawful, IllFormed}
+use Rattle.graggle.specs.Claims.{Plain, Formed}
 use Rattle.graggle.proofs.Splitting.{join_split, split_join, join_free}
 use Rattle.graggle.proofs.Numerals.{decimal_free}
 use Rattle.graggle.proofs.Naming.{name_written, name_from}

@@ -1,8 +1,8 @@
 -- A patch text: read just where it is written.
-use Rattle.std.proofs.Common.{◌≡◌, ℕ, suc, ◌+◌, ◌<◌, ◌≤◌, Bool, true, false, cond, eqb, List, [], ◌∷◌, ◌++◌, map, length, get_or, sym, refl, ap, ◌∙◌, subst, arith}
+use Rattle.std.proofs.Common.{◌≡◌, ℕ, ◌+◌, ◌≤◌, Bool, true, false, cond, eqb, List, [], ◌∷◌, ◌++◌, map, length, sym, refl, ap, ◌∙◌, subst, arith}
 use Rattle.std.specs.List.{AllByRecursion as All}
-use Rattle.std.proofs.lemmas.Bool.{cond_both, cond-true, cond-false, eqb-true, eqb-false, eq-eqb, ne_eqb}
-use Rattle.graggle.specs.Texts.{Text, split, join, ended, Free}
+use Rattle.std.proofs.lemmas.Bool.{cond-true, cond-false, eqb-false, ne_eqb}
+use Rattle.graggle.specs.Texts.{Text, split, join, Free}
 use Rattle.graggle.specs.Kinds.{SameTexts}
 use Rattle.graggle.specs.Entries.{Entry, Reading, Column, title}
 use Rattle.graggle.specs.Entries.Reading.{unread, entries}
@@ -10,7 +10,7 @@ use Rattle.graggle.specs.Reading.{Said, heads_fit, found, more, then, last, valu
 use Rattle.graggle.specs.Reading.Said.{wrong, says}
 use Rattle.graggle.specs.Writing.{heading, line_text, written, Order, Well}
 use Rattle.graggle.specs.Claims.{Plain, Writes, ReadsWhatIsWritten}
-use Rattle.graggle.proofs.Splitting.{SomePiece, some_piece, join_split, split_ended, join_ended}
+use Rattle.graggle.proofs.Splitting.{SomePiece, join_split, split_ended, join_ended}
 use Rattle.graggle.proofs.Splitting.SomePiece.{pieces}
 use Rattle.graggle.proofs.Columns.{Heads, heads_from, heads_written}
 use Rattle.graggle.proofs.ValueLines.{line_from, line_free, line_says, heading_split, heading_free}

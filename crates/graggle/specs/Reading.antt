@@ -1,5 +1,5 @@
 -- How a patch text is read. The number of a refusal is that of its reason: 2 line 1, 3 a value line, 4 a content, 5 the count of value lines.
-use Rattle.std.specs.Prelude.{ℕ, ◌+◌, Bool, true, false, cond, ◌&&◌, List, [], ◌∷◌, length, Some, None, Option, ◌==◌, slice_index_or}
+use Rattle.std.specs.Prelude.{ℕ, ◌+◌, Bool, cond, ◌&&◌, List, [], ◌∷◌, length, Some, None, Option, ◌==◌, slice_index_or}
 use Rattle.graggle.specs.Texts.{Text, split, blank, has, place}
 use Rattle.graggle.specs.Names.{Name, name}
 use Rattle.graggle.specs.Entries.{Entry, Reading, Column, title}

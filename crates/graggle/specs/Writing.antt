@@ -1,7 +1,7 @@
 -- How a patch text is written.
-use Rattle.std.specs.Prelude.{◌≡◌, ℕ, Bool, true, ◌⊎◌, List, [], ◌∷◌, map, length}
+use Rattle.std.specs.Prelude.{◌≡◌, Bool, true, ◌⊎◌, List, [], ◌∷◌, map, length}
 use Rattle.graggle.specs.Texts.{Text, join, ended}
-use Rattle.graggle.specs.Names.{Name, name_text, WellNamed}
+use Rattle.graggle.specs.Names.{name_text, WellNamed}
 use Rattle.graggle.specs.Entries.{Entry, Column, title}
 use Rattle.graggle.specs.Entries.Entry.{adds, links, strikes}
 use Rattle.graggle.specs.Entries.Column.{act, line, to, text}

@@ -6,7 +6,7 @@ use Rattle.kinds.proofs.branches.is_branch_number.Goals as goal
 
 pub returns : goal.returns
 returns c =
-    decides c.read.result c.is-some.result (lawful_branch c.args.text.now) _ _ c.is-some.ensures c.read.ensures
+    decides c.read.result c.is_some.result (lawful_branch c.args.text.now) _ _ c.is_some.ensures c.read.ensures
     (λ x e. record {
       branch = x.branch;
       serial = x.serial;

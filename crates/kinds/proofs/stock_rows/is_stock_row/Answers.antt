@@ -6,7 +6,7 @@ use Rattle.kinds.proofs.stock_rows.is_stock_row.Goals as goal
 
 pub returns : goal.returns
 returns c =
-    decides c.read.result c.is-some.result (lawful_row c.args.text.now) _ _ c.is-some.ensures c.read.ensures
+    decides c.read.result c.is_some.result (lawful_row c.args.text.now) _ _ c.is_some.ensures c.read.ensures
     (λ x e. record {
       item = x.item;
       copies = x.copies;

@@ -7,7 +7,7 @@ use Rattle.page.proofs.page.write_page.Goals as goal
 
 pub returns-then-memory-needed : goal.returns-then-memory-needed
 returns-then-memory-needed g c =
-    let needed = c.page-len-needed.ensures in
+    let needed = c.page_len-needed.ensures in
     let is = sym c.plain.ensures in
     record {
       bound = tt;
@@ -21,12 +21,12 @@ returns-then-memory-needed g c =
 -- only the part that the page fills is lent to be written
 pub returns : goal.returns
 returns g c =
-    let n : ℕ = c.page-len-needed.result in
+    let n : ℕ = c.page_len-needed.result in
     let memory = c.args.memory.now in
     let whole : length (take (n - 0) memory) ≡ n - 0 = length-take-le (n - 0) memory (omega arith) in
     let written : length c.fill.new.memory ≡ n = omega (arith, c.fill.auto.memory) in
     record {
-      bound = c.page-len-needed.ensures.bound;
+      bound = c.page_len-needed.ensures.bound;
       fits = c.if-memory-needed.false;
       rest = drop_at c.fill.new.memory _ n written ∙ Post-is 0 n memory (omega arith);
       fault = tt;

@@ -15,8 +15,8 @@ returns-in-k g c =
     let text = c.piece-text.result.now in
     record {
       says =
-          c.read-link.ensures.says
+          c.read_link.ensures.says
           ∙ ap (λ k. entry ids contents (letter k) line to text) (sym c.in-k.is)
           ∙ line_by ids contents (places_of c.args.columns) (split 59 c.args.values.now) act line to text (omega arith) c.piece-act.ensures c.piece-line.ensures c.piece-to.ensures c.piece-text.ensures c.if-act-ne1.false;
-      fault = c.read-link.ensures.fault;
+      fault = c.read_link.ensures.fault;
     }

@@ -15,4 +15,7 @@ loop-byte-preserved c =
     ]
 
 pub returns : goal.returns
-returns c = count_all c.args.mark c.loop-byte.count c.args.text.now c.loop-byte.byte-index c.loop-byte-test.false c.loop-byte.invariant.1
+returns c = record {
+  within = omega (arith, c.loop-byte.invariant.0);
+  pieces = count_all c.args.mark c.loop-byte.count c.args.text.now c.loop-byte.byte-index c.loop-byte-test.false c.loop-byte.invariant.1;
+}

@@ -1,4 +1,4 @@
-use Rattle.std.proofs.Common.{◌≡◌, ◌+◌, ◌-◌, [], get_or, sym, ap, ◌∙◌, arith}
+use Rattle.std.proofs.Common.{◌≡◌, ◌+◌, ◌-◌, [], get_or, ap, ◌∙◌, arith}
 use Rattle.graggle.specs.Texts.{split}
 use Rattle.texts.proofs.PieceSteps.{step_on, step_past, piece_here}
 use Rattle.texts.proofs.pieces.piece.Goals as goal
@@ -15,7 +15,7 @@ loop-preserved c =
     let t = c.loop.rest.now in
     let left = c.args.place - c.loop.counter in
     let z : c.args.place - (c.loop.counter + 1) ≡ left - 1 = omega arith in
-    elim c.match-split-first.branch [
+    elim c.match-split_first.branch [
       | in-Some w ↦ (
         omega arith,
         (λ i. get_or (split b (w.rest-is i).now) (z i) []) ∙ step_on b t w.in-Some.field-0-0.now w.in-Some.behind.now left (omega arith) w.in-Some.ensures.parts ∙ c.loop.invariant.1,

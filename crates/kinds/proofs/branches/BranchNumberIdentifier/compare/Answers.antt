@@ -11,6 +11,6 @@ pub returns : goal.returns
 returns c =
     let x = c.args.self.now in
     let y = c.args.other.now in
-    let b : c.cmp-by-branch.result ≡ nat_cmp x.branch y.branch = c.cmp-by-branch.ensures ∙ ap₂ nat_cmp c.branch-self.ensures c.branch-other.ensures in
+    let b : c.cmp-by_branch.result ≡ nat_cmp x.branch y.branch = c.cmp-by_branch.ensures ∙ ap₂ nat_cmp c.branch-self.ensures c.branch-other.ensures in
     let s : c.cmp.result ≡ nat_cmp x.serial y.serial = c.cmp.ensures ∙ ap₂ nat_cmp c.serial.ensures c.serial-2.ensures in
     c.then.ensures ∙ ap₂ ordering_then b s ∙ sym (pair_ranks branch_form x.branch x.serial y.branch y.serial (range x) (range y))

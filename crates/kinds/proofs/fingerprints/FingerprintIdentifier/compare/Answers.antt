@@ -6,5 +6,5 @@ use Rattle.kinds.proofs.fingerprints.FingerprintIdentifier.compare.Goals as goal
 
 pub returns : goal.returns
 returns c =
-    lex-says nat_cmp_total c.as-slice.result.now c.as-slice-2.result.now c.cmp.result c.cmp.ensures
-    ∙ ap₂ by_bytes c.as-slice.ensures c.as-slice-2.ensures
+    lex-says nat_cmp_total c.as_slice.result.now c.as_slice-2.result.now c.cmp.result c.cmp.ensures
+    ∙ ap₂ by_bytes c.as_slice.ensures c.as_slice-2.ensures

@@ -6,14 +6,14 @@ use Rattle.texts.proofs.Filling.{copied}
 use Rattle.kinds.specs.PrintLaws.{lawful_from, other_byte}
 use Rattle.kinds.proofs.fingerprints.FingerprintIdentifier.read.Goals as goal
 
-pub returns-then-not-is-hexadecimal : goal.returns-then-not-is-hexadecimal
-returns-then-not-is-hexadecimal c =
+pub returns-then-not-is_hexadecimal : goal.returns-then-not-is_hexadecimal
+returns-then-not-is_hexadecimal c =
     let t = c.args.bytes.now in
-    other_byte t (left_fails hexadecimal t c.loop-byte.byte-index c.loop-byte-test.true (sym c.if-not-is-hexadecimal.ensures) c.loop-byte.invariant)
+    other_byte t (left_fails hexadecimal t c.loop-byte.byte-index c.loop-byte-test.true (sym c.if-not-is_hexadecimal.ensures) c.loop-byte.invariant)
 
 pub loop-byte-preserved : goal.loop-byte-preserved
 loop-byte-preserved c =
-    left_more hexadecimal c.args.bytes.now c.loop-byte.byte-index c.loop-byte-test.true (sym c.if-not-is-hexadecimal.ensures) c.loop-byte.invariant
+    left_more hexadecimal c.args.bytes.now c.loop-byte.byte-index c.loop-byte-test.true (sym c.if-not-is_hexadecimal.ensures) c.loop-byte.invariant
 
 pub invariant-of-result : goal.invariant-of-result
 invariant-of-result c =

@@ -6,14 +6,14 @@ use Rattle.texts.proofs.Filling.{copied}
 use Rattle.kinds.specs.LineLaws.{lawful_from, unprintable}
 use Rattle.kinds.proofs.text_lines.TextLineContent.read.Goals as goal
 
-pub returns-then-not-is-printable : goal.returns-then-not-is-printable
-returns-then-not-is-printable c =
+pub returns-then-not-is_printable : goal.returns-then-not-is_printable
+returns-then-not-is_printable c =
     let t = c.args.bytes.now in
-    unprintable t (left_fails printable t c.loop-byte.byte-index c.loop-byte-test.true (sym c.if-not-is-printable.ensures) c.loop-byte.invariant)
+    unprintable t (left_fails printable t c.loop-byte.byte-index c.loop-byte-test.true (sym c.if-not-is_printable.ensures) c.loop-byte.invariant)
 
 pub loop-byte-preserved : goal.loop-byte-preserved
 loop-byte-preserved c =
-    left_more printable c.args.bytes.now c.loop-byte.byte-index c.loop-byte-test.true (sym c.if-not-is-printable.ensures) c.loop-byte.invariant
+    left_more printable c.args.bytes.now c.loop-byte.byte-index c.loop-byte-test.true (sym c.if-not-is_printable.ensures) c.loop-byte.invariant
 
 pub invariant-of-result : goal.invariant-of-result
 invariant-of-result c =

@@ -7,4 +7,4 @@ returns g c =
     let own = g.met.I.Identifier.own in
     let a = c.args.self.now.patch in
     let b = c.args.patch.now in
-    equal_decides g.met.I.Identifier.kind.total (t a) (t b) (own a) (own b) c.compare.result c.is-eq.result c.compare.ensures c.is-eq.ensures
+    equal_decides g.met.I.Identifier.kind.total (t a) (t b) (own a) (own b) c.compare.result c.is_eq.result c.compare.ensures c.is_eq.ensures

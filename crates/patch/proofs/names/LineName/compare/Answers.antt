@@ -9,7 +9,7 @@ returns g c =
     let own = g.met.I.Identifier.own in
     let a = c.args.self.now in
     let b = c.args.other.now in
-    let e = c.then.ensures ∙ ap₂ ordering_then c.compare-by-patch.ensures c.cmp.ensures in
+    let e = c.then.ensures ∙ ap₂ ordering_then c.compare-by_patch.ensures c.cmp.ensures in
     record {
       order = e;
       alike = λ same h. e ∙ ap (λ o. ordering_then o (nat_cmp a.index b.index)) (h (k.text a.patch) (k.text b.patch) (own a.patch) (own b.patch));

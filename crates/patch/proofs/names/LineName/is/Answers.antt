@@ -8,4 +8,4 @@ returns g c =
     let own = g.met.I.Identifier.own in
     let a = c.args.self.now in
     let b = c.args.other.now in
-    equal_decides c.compare.ensures.total (name_of t a) (name_of t b) (own a.patch) (own b.patch) c.compare.result c.is-eq.result c.compare.ensures.order c.is-eq.ensures
+    equal_decides c.compare.ensures.total (name_of t a) (name_of t b) (own a.patch) (own b.patch) c.compare.result c.is_eq.result c.compare.ensures.order c.is_eq.ensures

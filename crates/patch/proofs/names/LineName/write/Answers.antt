@@ -9,6 +9,6 @@ returns g c =
     let n = c.args.self.now.index in
     let law = g.met.I.Identifier.kind in
     let within = law.long.within (g.I.Identifier.text x) (g.met.I.Identifier.own x) in
-    c.append-number.ensures
-    ∙ ap (λ xs. filled 36 xs (decimal n)) (c.push.ensures ∙ ap (λ xs. pushed 36 xs 58) (c.append.ensures ∙ ap₂ (filled 36) c.new-text.ensures (c.as-slice.ensures ∙ c.write.ensures)))
+    c.append_number.ensures
+    ∙ ap (λ xs. filled 36 xs (decimal n)) (c.push.ensures ∙ ap (λ xs. pushed 36 xs 58) (c.append.ensures ∙ ap₂ (filled 36) c.new-text.ensures (c.as_slice.ensures ∙ c.write.ensures)))
     ∙ name_filled (g.I.Identifier.text x) n (omega (arith, within, law.short)) (omega arith)

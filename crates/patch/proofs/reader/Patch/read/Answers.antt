@@ -43,20 +43,20 @@ returns-in-default-read g c =
       fault = search rules;
     }
 
-pub returns-in-err-check-values : goal.returns-in-err-check-values
-returns-in-err-check-values g c =
+pub returns-in-err-check_values : goal.returns-in-err-check_values
+returns-in-err-check_values g c =
     let ids = g.I.Identifier.lawful in
     let contents = g.C.Content.lawful in
     let plain = plain_kinds g.met.I.Identifier.kind g.met.C.Content.kind in
     let t = c.args.text.now in
     let s = c.in-Some in
     let k = c.in-Some-read.ensures in
-    let e = c.in-err-check-values.ensures in
+    let e = c.in-err-check_values.ensures in
     let r = c.from-residual.result in
     let y = err_from_is_err_and r c.from-residual.ensures.1 in
-    let is : r ≡ Err c.in-err-check-values.field-0.0 = y.1 ∙ ap (λ x. Err x) y.2 in
+    let is : r ≡ Err c.in-err-check_values.field-0.0 = y.1 ∙ ap (λ x. Err x) y.2 in
     let behind = lines_behind ids contents (places_of c.in-Some-read.columns) t s.heading.now s.values.now s.ensures.parts k.0 k.1 in
-    let h : Answers (held ids contents) (read ids contents t) r = subst (Answers (held ids contents) (read ids contents t)) (sym is) (answers_by (held ids contents) (Err c.in-err-check-values.field-0.0) behind e.reads) in
+    let h : Answers (held ids contents) (read ids contents t) r = subst (Answers (held ids contents) (read ids contents t)) (sym is) (answers_by (held ids contents) (Err c.in-err-check_values.field-0.0) behind e.reads) in
     record {
       reads = h;
       means = gives_what_is_written (held ids contents) ids contents plain t r h;
@@ -75,7 +75,7 @@ returns g c =
     let s = c.in-Some in
     let k = c.in-Some-read.ensures in
     let p : Patch = record { columns = c.in-Some-read.columns; values = s.values } in
-    let h = lines_behind ids contents (places_of p.columns) t s.heading.now s.values.now s.ensures.parts k.0 k.1 ∙ c.in-ok-check-values.ensures.reads in
+    let h = lines_behind ids contents (places_of p.columns) t s.heading.now s.values.now s.ensures.parts k.0 k.1 ∙ c.in-ok-check_values.ensures.reads in
     record {
       reads = h;
       means = gives_what_is_written {I = g.row.I.Denot} (held ids contents) ids contents plain t (Ok p) h;

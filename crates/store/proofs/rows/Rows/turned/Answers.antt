@@ -11,7 +11,7 @@ loop-from-preserved c =
     let rows = c.args.self.now.rows in
     let x = c.loop-from.from in
     let low = c.loop-from-test.true in
-    turned_more (spot c.args.self.now) (spot c.loop-from.turned) (spot c.add-column.new.self) x (bit (get_or rows x no_row)) low (λ i. at_row rows x i low) c.loop-from.invariant c.add-column.ensures
+    turned_more (spot c.args.self.now) (spot c.loop-from.turned) (spot c.add_column.new.self) x (bit (get_or rows x no_row)) low (λ i. at_row rows x i low) c.loop-from.invariant c.add_column.ensures
 
 pub returns : goal.returns
 returns c i j =

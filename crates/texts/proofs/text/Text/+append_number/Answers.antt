@@ -1,4 +1,4 @@
-use Rattle.std.proofs.Common.{◌≡◌, ℕ, ◌+◌, ◌/◌, ◌%◌, [], ◌∷◌, decimal, sym, ap, ◌∙◌, arith}
+use Rattle.std.proofs.Common.{ℕ, ◌+◌, ◌/◌, ◌%◌, [], ◌∷◌, decimal, sym, ap, ◌∙◌, arith}
 use Rattle.std.proofs.lemmas.Fmt.{decimal_digit, decimal_step}
 use Rattle.texts.specs.Shown.{filled, pushed, shown}
 use Rattle.texts.proofs.Filling.{filled_more}
@@ -16,6 +16,6 @@ returns g t c =
     let start = shown c.args.self.now in
     let last-digit = (48 + n % 10) ∷ [] in
     c.push-2.ensures
-    ∙ ap (λ ys. pushed g.row.N ys (48 + n % 10)) c.append-number.ensures
+    ∙ ap (λ ys. pushed g.row.N ys (48 + n % 10)) c.append_number.ensures
     ∙ sym (filled_more g.row.N start (decimal (n / 10)) last-digit)
     ∙ ap (filled g.row.N start) (sym (decimal_step n c.if-number-lt10.false (omega arith)))

@@ -1,4 +1,4 @@
 use Rattle.texts.proofs.text.Text.+append_number.Given as goal
 
-abbrev pub decreases-append-number : goal.decreases-append-number
-decreases-append-number g l = l.number
+abbrev pub decreases-append_number : goal.decreases-append_number
+decreases-append_number g l = l.number
