@@ -1,6 +1,6 @@
 -- A refusal is of the first faulty line.
 use Rattle.std.proofs.Common.{◌≡◌, ℕ, zero, suc, ◌+◌, ◌<◌, ◌≤◌, Bool, true, false, cond, eqb, ◌⊎◌, List, [], ◌∷◌, ◌++◌, map, length, get_or, Some, None, Option, sym, refl, ap, ◌∙◌, subst, inl, inr, ⊎_elim, append_assoc, arith}
-use Rattle.std.specs.List.{AllByRecursion as All}
+use Rattle.std.specs.List.{AllByRecursion}
 use Rattle.std.proofs.lemmas.Bool.{eqb-true, eqb-false, both_ways}
 use Rattle.graggle.specs.Texts.{Text, split, join, ended, blank, Free}
 use Rattle.graggle.specs.Names.{Name, name, name_text, WellNamed}
@@ -29,7 +29,7 @@ cond_either : {A : Type 0} (t : Bool) (a b r : A) → cond t a b ≡ r → ((t �
 cond_either true a b r h = inl (refl, h)
 cond_either false a b r h = inr (refl, h)
 
-all_at : (P : Text → Type 0) → P [] → (ps : List Text) → All P ps → (i : ℕ) → P (get_or ps i [])
+all_at : (P : Text → Type 0) → P [] → (ps : List Text) → AllByRecursion P ps → (i : ℕ) → P (get_or ps i [])
 all_at P d [] h i = d
 all_at P d (p ∷ ps) h zero = h.0
 all_at P d (p ∷ ps) h (suc i) = all_at P d ps h.1 i
@@ -128,7 +128,7 @@ module _ (ids contents : Text → Bool) where
         es : List Entry
         rest : Text
         bytes : join 10 ps ≡ ended (map (line_text cs) es) ++ rest
-        well : All (Well ids contents) es
+        well : AllByRecursion (Well ids contents) es
         place : p ≡ k + length es + 2
         why : Why ids contents cs n (k + length es) rest
 
@@ -170,7 +170,7 @@ module _ (ids contents : Text → Bool) where
             why = subst (λ i. Why ids contents cs n i s.rest) j s.why;
           }
 
-      stops : (k : ℕ) (ps : List Text) (n d : ℕ) → k ≤ 128 → SomePiece ps → All (Free 10) ps → values ids contents (found (map title cs)) k ps ≡ unread n d → Stop k ps n d
+      stops : (k : ℕ) (ps : List Text) (n d : ℕ) → k ≤ 128 → SomePiece ps → AllByRecursion (Free 10) ps → values ids contents (found (map title cs)) k ps ≡ unread n d → Stop k ps n d
       stops k [] n d l s f h = elim s [ ]
       stops k (p ∷ []) n d l s f h = stop_last k p n d l f.0 h
       stops k (p ∷ q ∷ ps) n d l s f h =
@@ -205,7 +205,7 @@ module _ (ids contents : Text → Bool) where
     from_line : (p q : Text) (ps : List Text) → split 10 t ≡ p ∷ q ∷ ps → Heads (split 59 p) → values ids contents (found (split 59 p)) 0 (q ∷ ps) ≡ unread n d → Refused ids contents t n d
     from_line p q ps s h v =
         let cs = h.columns in
-        let k = stops cs h.order plain 0 (q ∷ ps) n d (omega arith) (pieces q ps) (subst (All (Free 10)) s (split_free 10 t)).1 (ap (λ hs. values ids contents (found hs) 0 (q ∷ ps)) (sym h.names) ∙ v) in
+        let k = stops cs h.order plain 0 (q ∷ ps) n d (omega arith) (pieces q ps) (subst (AllByRecursion (Free 10)) s (split_free 10 t)).1 (ap (λ hs. values ids contents (found hs) 0 (q ∷ ps)) (sym h.names) ∙ v) in
         let head : p ≡ heading cs = sym (join_split 59 p) ∙ ap (join 59) h.names in
         let j : 0 + length k.es ≡ length k.es = omega arith in
         at_line cs k.es k.rest h.order

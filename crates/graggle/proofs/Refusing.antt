@@ -1,6 +1,6 @@
 -- A text whose first fault is known is refused for it.
 use Rattle.std.proofs.Common.{◌≡◌, ℕ, suc, ◌+◌, ◌<◌, ◌≤◌, Bool, cond, eqb, List, [], ◌∷◌, ◌++◌, map, length, sym, refl, ap, ◌∙◌, ⊎_elim, append_assoc, arith}
-use Rattle.std.specs.List.{AllByRecursion as All}
+use Rattle.std.specs.List.{AllByRecursion}
 use Rattle.std.proofs.lemmas.Bool.{cond-true, cond-false, cond_both, eq-eqb, ne_eqb}
 use Rattle.graggle.specs.Texts.{Text, split, join, ended, Free}
 use Rattle.graggle.specs.Entries.{Entry, Column, title}
@@ -19,7 +19,7 @@ use Rattle.graggle.proofs.ValueLines.{formed, line_from, line_free, line_says, l
 use Rattle.graggle.proofs.Whole.{values_step}
 use Rattle.graggle.proofs.Refusals.{line_wrong, first_fault}
 
-split_more : (ls : List Text) (rest : Text) → All (Free 10) ls → split 10 (ended ls ++ rest) ≡ ls ++ split 10 rest
+split_more : (ls : List Text) (rest : Text) → AllByRecursion (Free 10) ls → split 10 (ended ls ++ rest) ≡ ls ++ split 10 rest
 split_more [] rest f = refl
 split_more (l ∷ ls) rest f =
     ap (split 10) (append_assoc l (10 ∷ ended ls) rest) ∙ split_off 10 l (ended ls ++ rest) f.0 ∙ ap (λ xs. l ∷ xs) (split_more ls rest f.1)
@@ -33,12 +33,12 @@ lines_step ids contents p _ (pieces q ps) = refl
 
 module _ (ids contents : Text → Bool) (plain : Plain ids contents) where
   module _ (cs : List Column) (o : Order cs) where
-    texts_free : (es : List Entry) → All (Well ids contents) es → All (Free 10) (map (line_text cs) es)
+    texts_free : (es : List Entry) → AllByRecursion (Well ids contents) es → AllByRecursion (Free 10) (map (line_text cs) es)
     texts_free [] w = tt
     texts_free (e ∷ es) w = (line_free ids contents plain cs e w.0, texts_free es w.1)
 
     -- entries, and then a fault
-    over : (k : ℕ) (es : List Entry) (ps : List Text) (n d : ℕ) → SomePiece ps → k + length es ≤ 128 → All (Well ids contents) es →
+    over : (k : ℕ) (es : List Entry) (ps : List Text) (n d : ℕ) → SomePiece ps → k + length es ≤ 128 → AllByRecursion (Well ids contents) es →
         values ids contents (found (map title cs)) (k + length es) ps ≡ unread n d →
         values ids contents (found (map title cs)) k (map (line_text cs) es ++ ps) ≡ unread n d
     over k [] ps n d s l w h = let j : k ≡ k + 0 = omega arith in ap (λ i. values ids contents (found (map title cs)) i ps) j ∙ h
@@ -93,7 +93,7 @@ module _ (ids contents : Text → Bool) (plain : Plain ids contents) where
     few n k rest (ill_formed e l p after q f h) = omega arith
     few n k rest (unlawful e l p after q f u) = omega arith
 
-    refused_line : (es : List Entry) (rest : Text) (n : ℕ) → All (Well ids contents) es → Why ids contents cs n (length es) rest → read ids contents (written cs es ++ rest) ≡ unread n (length es + 2)
+    refused_line : (es : List Entry) (rest : Text) (n : ℕ) → AllByRecursion (Well ids contents) es → Why ids contents cs n (length es) rest → read ids contents (written cs es ++ rest) ≡ unread n (length es + 2)
     refused_line es rest n w y =
         let texts = map (line_text cs) es in
         let j : length es ≡ 0 + length es = omega arith in

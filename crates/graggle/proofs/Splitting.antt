@@ -1,6 +1,6 @@
 -- Splitting and joining undo one another.
 use Rattle.std.proofs.Common.{◌≡◌, ℕ, eqb, List, [], ◌∷◌, ◌++◌, length, sym, refl, ap, ◌∙◌, arith}
-use Rattle.std.specs.List.{AllByRecursion as All}
+use Rattle.std.specs.List.{AllByRecursion}
 use Rattle.std.proofs.lemmas.Bool.{cond_both, cond-true, cond-false, eqb-true, eqb-false, eq-eqb, ne_eqb}
 use Rattle.std.proofs.ByRecursion.{All-append}
 use Rattle.graggle.specs.Texts.{Text, Free, onto, split, join, ended, two}
@@ -32,14 +32,14 @@ join_split b (c ∷ cs) =
     (λ e. join_onto b c (split b cs) (some_piece b cs) ∙ ap (λ xs. c ∷ xs) (join_split b cs))
 
 -- each piece lacks the byte
-free_onto : (b c : ℕ) (ps : List Text) → (c ≡ b → ⊥) → All (Free b) ps → All (Free b) (onto c ps)
+free_onto : (b c : ℕ) (ps : List Text) → (c ≡ b → ⊥) → AllByRecursion (Free b) ps → AllByRecursion (Free b) (onto c ps)
 free_onto b c [] n h = ((n, tt), tt)
 free_onto b c (p ∷ ps) n h = ((n, h.0), h.1)
 
-pub split_free : (b : ℕ) (t : Text) → All (Free b) (split b t)
+pub split_free : (b : ℕ) (t : Text) → AllByRecursion (Free b) (split b t)
 split_free b [] = (tt, tt)
 split_free b (c ∷ cs) =
-    cond_both (eqb c b) _ _ (All (Free b))
+    cond_both (eqb c b) _ _ (AllByRecursion (Free b))
     (λ e. (tt, split_free b cs))
     (λ e. free_onto b c (split b cs) (eqb-false c b e) (split_free b cs))
 
@@ -54,18 +54,18 @@ split_off b [] t h = cond-true (eqb b b) _ _ (eq-eqb b b refl)
 split_off b (c ∷ p) t h =
     cond-false (eqb c b) _ _ (ne_eqb c b h.0) ∙ ap (onto c) (split_off b p t h.1)
 
-pub split_join : (b : ℕ) (p : Text) (ps : List Text) → All (Free b) (p ∷ ps) → split b (join b (p ∷ ps)) ≡ p ∷ ps
+pub split_join : (b : ℕ) (p : Text) (ps : List Text) → AllByRecursion (Free b) (p ∷ ps) → split b (join b (p ∷ ps)) ≡ p ∷ ps
 split_join b p [] h = split_whole b p h.0
 split_join b p (q ∷ ps) h = split_off b p (join b (q ∷ ps)) h.0 ∙ ap (λ xs. p ∷ xs) (split_join b q ps h.1)
 
 -- a join lacks what its pieces and the mark lack
-pub join_free : (d b : ℕ) → (b ≡ d → ⊥) → (ps : List Text) → All (Free d) ps → Free d (join b ps)
+pub join_free : (d b : ℕ) → (b ≡ d → ⊥) → (ps : List Text) → AllByRecursion (Free d) ps → Free d (join b ps)
 join_free d b n [] h = tt
 join_free d b n (p ∷ []) h = h.0
 join_free d b n (p ∷ q ∷ ps) h = All-append (λ c. c ≡ d → ⊥) p (b ∷ join b (q ∷ ps)) h.0 (n, join_free d b n (q ∷ ps) h.1)
 
 -- lines with their endings
-pub split_ended : (ls : List Text) → All (Free 10) ls → split 10 (ended ls) ≡ ls ++ ([] ∷ [])
+pub split_ended : (ls : List Text) → AllByRecursion (Free 10) ls → split 10 (ended ls) ≡ ls ++ ([] ∷ [])
 split_ended [] h = refl
 split_ended (l ∷ ls) h = split_off 10 l (ended ls) h.0 ∙ ap (λ xs. l ∷ xs) (split_ended ls h.1)
 

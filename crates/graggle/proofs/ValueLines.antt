@@ -1,6 +1,6 @@
 -- A value line: read just where it is written.
 use Rattle.std.proofs.Common.{◌≡◌, ℕ, Bool, true, false, cond, eqb, List, [], ◌∷◌, map, length, Some, None, decimal, Option, sym, refl, ap, ◌∙◌, subst, arith}
-use Rattle.std.specs.List.{AllByRecursion as All}
+use Rattle.std.specs.List.{AllByRecursion}
 use Rattle.std.proofs.lemmas.Bool.{cond_both, cond-true, eqb-true, eq-eqb}
 use Rattle.std.proofs.ByRecursion.{All-append}
 use Rattle.std.proofs.lemmas.List.{length-map}
@@ -172,7 +172,7 @@ module _ (ids contents : Text → Bool) where
     value_free_59 (strikes n) w to = tt
     value_free_59 (strikes n) w text = tt
 
-    all_free : (b : ℕ) (f : Column → Text) → ((c : Column) → Free b (f c)) → (cs : List Column) → All (Free b) (map f cs)
+    all_free : (b : ℕ) (f : Column → Text) → ((c : Column) → Free b (f c)) → (cs : List Column) → AllByRecursion (Free b) (map f cs)
     all_free b f h [] = tt
     all_free b f h (c ∷ cs) = (h c, all_free b f h cs)
 
@@ -201,7 +201,7 @@ title_free line = (((λ e. omega arith), ((λ e. omega arith), ((λ e. omega ari
 title_free to = (((λ e. omega arith), ((λ e. omega arith), tt)), ((λ e. omega arith), ((λ e. omega arith), tt)))
 title_free text = (((λ e. omega arith), ((λ e. omega arith), ((λ e. omega arith), ((λ e. omega arith), tt)))), ((λ e. omega arith), ((λ e. omega arith), ((λ e. omega arith), ((λ e. omega arith), tt)))))
 
-titles_free : (b : ℕ) → ((c : Column) → Free b (title c)) → (cs : List Column) → All (Free b) (map title cs)
+titles_free : (b : ℕ) → ((c : Column) → Free b (title c)) → (cs : List Column) → AllByRecursion (Free b) (map title cs)
 titles_free b h [] = tt
 titles_free b h (c ∷ cs) = (h c, titles_free b h cs)
 

@@ -1,6 +1,6 @@
 -- A patch text: read just where it is written.
 use Rattle.std.proofs.Common.{◌≡◌, ℕ, ◌+◌, ◌≤◌, Bool, true, false, cond, eqb, List, [], ◌∷◌, ◌++◌, map, length, sym, refl, ap, ◌∙◌, subst, arith}
-use Rattle.std.specs.List.{AllByRecursion as All}
+use Rattle.std.specs.List.{AllByRecursion}
 use Rattle.std.proofs.lemmas.Bool.{cond-true, cond-false, eqb-false, ne_eqb}
 use Rattle.graggle.specs.Texts.{Text, split, join, Free}
 use Rattle.graggle.specs.Kinds.{SameTexts}
@@ -24,7 +24,7 @@ pub record Follows (ids contents : Text → Bool) (cs : List Column) (k : ℕ) (
   pub lines_are : ps ≡ map (line_text cs) es ++ ([] ∷ [])
   pub most : k + length es ≤ 128
   pub some : 1 ≤ k + length es
-  pub well : All (Well ids contents) es
+  pub well : AllByRecursion (Well ids contents) es
 
 -- an entry more: what it says, and what follows it
 more_from : (e : Entry) (r : Reading) (es : List Entry) → more e r ≡ entries es → (ds : List Entry) × (r ≡ entries ds) × (e ∷ ds ≡ es)
@@ -72,21 +72,21 @@ module _ (ids contents : Text → Bool) (cs : List Column) (o : Order cs) where
     end_piece [] = pieces [] []
     end_piece (e ∷ es) = pieces (line_text cs e) (map (line_text cs) es ++ ([] ∷ []))
 
-    values_read : (k : ℕ) (es : List Entry) → k + length es ≤ 128 → 1 ≤ k + length es → All (Well ids contents) es → values ids contents (found (map title cs)) k (map (line_text cs) es ++ ([] ∷ [])) ≡ entries es
+    values_read : (k : ℕ) (es : List Entry) → k + length es ≤ 128 → 1 ≤ k + length es → AllByRecursion (Well ids contents) es → values ids contents (found (map title cs)) k (map (line_text cs) es ++ ([] ∷ [])) ≡ entries es
     values_read k [] l s w = cond-false (eqb k 0) _ _ (ne_eqb k 0 (λ e. omega arith))
     values_read k (e ∷ es) l s w =
         values_step k (line_text cs e) (map (line_text cs) es ++ ([] ∷ [])) (end_piece es)
         ∙ cond-false (eqb k 128) _ _ (ne_eqb k 128 (λ e. omega arith))
         ∙ (λ i. then (line_says ids contents plain cs o e w.0 i) (k + 2) (values_read (k + 1) es (omega arith) (omega arith) w.1 i))
 
-    pub texts_free : (es : List Entry) → All (Well ids contents) es → All (Free 10) (map (line_text cs) es)
+    pub texts_free : (es : List Entry) → AllByRecursion (Well ids contents) es → AllByRecursion (Free 10) (map (line_text cs) es)
     texts_free [] w = tt
     texts_free (e ∷ es) w = (line_free ids contents plain cs e w.0, texts_free es w.1)
 
     pub lines_step : (p : Text) (ps : List Text) → SomePiece ps → lines ids contents (p ∷ ps) ≡ cond (heads_fit (split 59 p)) (values ids contents (found (split 59 p)) 0 ps) (unread 2 1)
     lines_step p _ (pieces q ps) = refl
 
-    pub read_written : (es : List Entry) → 1 ≤ length es → length es ≤ 128 → All (Well ids contents) es → read ids contents (written cs es) ≡ entries es
+    pub read_written : (es : List Entry) → 1 ≤ length es → length es ≤ 128 → AllByRecursion (Well ids contents) es → read ids contents (written cs es) ≡ entries es
     read_written es s m w =
         let rest = map (line_text cs) es ++ ([] ∷ []) in
         ap (lines ids contents) (split_ended (heading cs ∷ map (line_text cs) es) (heading_free cs, texts_free es w))

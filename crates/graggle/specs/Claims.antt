@@ -1,6 +1,6 @@
 -- What the reading of a patch text means.
 use Rattle.std.specs.Prelude.{◌≡◌, ℕ, ◌+◌, ◌<◌, ◌≤◌, Bool, true, false, ◌↔◌, List, [], ◌∷◌, ◌++◌, length, ◌≢◌}
-use Rattle.std.specs.List.{AllByRecursion as All}
+use Rattle.std.specs.List.{AllByRecursion}
 use Rattle.graggle.specs.Texts.{Text, Free}
 use Rattle.graggle.specs.Names.{Name, WellNamed}
 use Rattle.graggle.specs.Entries.{Entry, Column}
@@ -21,7 +21,7 @@ pub record Writes (ids contents : Text → Bool) (t : Text) (es : List Entry) : 
   pub bytes : t ≡ written columns es
   pub some : 1 ≤ length es
   pub most : length es ≤ 128
-  pub well : All (Well ids contents) es
+  pub well : AllByRecursion (Well ids contents) es
 
 abbrev pub ReadsWhatIsWritten : Type 0
 ReadsWhatIsWritten =
@@ -57,7 +57,7 @@ pub data Why (ids contents : Text → Bool) (cs : List Column) (n k : ℕ) (rest
 -- a refusal is of the first faulty line: all before it is written as it should be
 pub data Refused (ids contents : Text → Bool) (t : Text) (n p : ℕ) : Type 0 where
   at_heading : n ≡ 2 → p ≡ 1 → ((cs : List Column) (after : Text) → Order cs → t ≢ heading cs ++ (10 ∷ after)) → Refused ids contents t n p
-  at_line : (cs : List Column) (es : List Entry) (rest : Text) → Order cs → t ≡ written cs es ++ rest → All (Well ids contents) es → p ≡ length es + 2 → Why ids contents cs n (length es) rest → Refused ids contents t n p
+  at_line : (cs : List Column) (es : List Entry) (rest : Text) → Order cs → t ≡ written cs es ++ rest → AllByRecursion (Well ids contents) es → p ≡ length es + 2 → Why ids contents cs n (length es) rest → Refused ids contents t n p
 
 abbrev pub RefusesTheFirstFault : Type 0
 RefusesTheFirstFault =

@@ -1,6 +1,6 @@
 -- Texts, and their pieces between marks: split at byte 10, a text's lines; split at a semicolon, a line's values; split at a colon, a name's parts.
 use Rattle.std.specs.Prelude.{ℕ, suc, Bool, true, false, cond, ◌&&◌, List, [], ◌∷◌, ◌++◌, ◌==◌, ◌≢◌}
-use Rattle.std.specs.List.{AllByRecursion as All}
+use Rattle.std.specs.List.{AllByRecursion}
 use Rattle.std.specs.Str.{bytes_eq}
 
 -- bytes, in order
@@ -9,7 +9,7 @@ Text = List ℕ
 
 -- no byte is b
 abbrev pub Free : ℕ → Text → Type 0
-Free b t = All (λ c. c ≢ b) t
+Free b t = AllByRecursion (λ c. c ≢ b) t
 
 -- every byte passes the test
 abbrev pub every : (ℕ → Bool) → Text → Bool

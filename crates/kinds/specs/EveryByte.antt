@@ -1,7 +1,7 @@
 -- Laws of a test that every byte of a text is to pass, for any test f of a byte.
 use Rattle.std.specs.Prelude.{◌≡◌, ℕ, ◌+◌, ◌<◌, ◌≤◌, Bool, true, false, ◌&&◌, length, drop, Decides, slice_index, refl}
 use Rattle.std.proofs.Common.{sym, ap, ◌∙◌}
-use Rattle.std.specs.List.{AllByRecursion as All}
+use Rattle.std.specs.List.{AllByRecursion}
 use Rattle.std.proofs.lemmas.List.{at_drop_more, at_drop_all}
 use Rattle.std.proofs.ByRecursion.{Decides-by_and}
 use Rattle.graggle.specs.Texts.{Text, every}
@@ -26,5 +26,5 @@ module _ (f : ℕ → Bool) where
   pub left_all : (t : Text) (i : ℕ) → length t ≤ i → Left t i → every f t ≡ true
   left_all t i h e = sym e ∙ at_drop_all (every f) t i h
 
-  pub every_decides : (P : ℕ → Type 0) → ((c : ℕ) → Decides (f c) (P c)) → (t : Text) → Decides (every f t) (All P t)
+  pub every_decides : (P : ℕ → Type 0) → ((c : ℕ) → Decides (f c) (P c)) → (t : Text) → Decides (every f t) (AllByRecursion P t)
   every_decides P d t = Decides-by_and f P (every f) d refl (λ _ _. refl) t

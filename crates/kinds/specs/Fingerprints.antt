@@ -1,7 +1,7 @@
 -- Fingerprints: 32 hexadecimal digits, 0 to 9 (bytes 48 to 57) and a to f (97 to 102), ordered as text.
-use Rattle.std.specs.Prelude.{◌≡◌, ℕ, ◌≤◌, Bool, ◌&&◌, ◌||◌, ◌⊎◌, length, ◌==◌, nat_le}
+use Rattle.std.specs.Prelude.{◌≡◌, ℕ, Bool, ◌&&◌, ◌||◌, ◌⊎◌, length, ◌==◌, nat_le}
 use Rattle.std.specs.Int.{IsInRange}
-use Rattle.std.specs.List.{AllByRecursion as All}
+use Rattle.std.specs.List.{AllByRecursion}
 use Rattle.graggle.specs.Texts.{Text, every}
 
 abbrev pub hexadecimal : ℕ → Bool
@@ -12,4 +12,4 @@ lawful_fingerprint t = length t == 32 && every hexadecimal t
 
 pub record FingerprintText (t : Text) : Type 0 where
   pub long : length t ≡ 32
-  pub digits : All (λ c. IsInRange 48 57 c ⊎ IsInRange 97 102 c) t
+  pub digits : AllByRecursion (λ c. IsInRange 48 57 c ⊎ IsInRange 97 102 c) t

@@ -1,5 +1,5 @@
 -- Texts of two numbers with a mark between them: lawful just where two numbers write them.
-use Rattle.std.specs.Prelude.{◌≡◌, ℕ, ◌+◌, ◌^◌, ◌<◌, ◌≤◌, Bool, true, false, ◌&&◌, List, [], ◌∷◌, ◌++◌, length, Some, None, decimal, ◌≢◌, slice_index_or, refl}
+use Rattle.std.specs.Prelude.{◌≡◌, ℕ, ◌+◌, ◌^◌, ◌<◌, ◌≤◌, Bool, true, false, ◌&&◌, List, [], ◌∷◌, ◌++◌, length, Some, None, codes, decimal, ◌≢◌, slice_index_or, refl}
 use Rattle.std.specs.declared.cmp.Ordering.{Ordering}
 use Rattle.std.proofs.Common.{sym, ap, ap₂, subst, ◌∙◌, arith, length-append}
 use Rattle.std.specs.Ordering.{ordering_then, nat_cmp}
@@ -10,12 +10,14 @@ use Rattle.std.proofs.ByRecursion.{All-append}
 use Rattle.std.proofs.lemmas.Bool.{and_parts, and_from, and_left, and_right, cond_both}
 use Rattle.graggle.specs.Texts.{Text, Free, split, join, two}
 use Rattle.graggle.specs.Numbers.{numeral, number}
-use Rattle.graggle.specs.Kinds.{Longest}
+use Rattle.graggle.specs.Kinds.{Contents, Identifiers, Longest}
 use Rattle.graggle.specs.Orders.{Total}
 use Rattle.graggle.proofs.Splitting.{join_split, split_off, split_whole, two_rest}
 use Rattle.graggle.proofs.Numerals.{decimal_free, told_value, numeral_written, numeral_told, numeral_none, number_from}
 use Rattle.graggle.proofs.Ordered.{numbers_total, parts_total}
 use Rattle.kinds.specs.Pairs.{two_pass, pair_text, number_at}
+use Rattle.kinds.specs.BranchNumbers.{lawful_branch, branch_order}
+use Rattle.kinds.specs.StockRows.{lawful_row}
 
 -- the mark, the first number from low to high, and the second from least to most
 pub record Form : Type 0 where
@@ -28,12 +30,27 @@ pub record Form : Type 0 where
   pub high_fits : high < 2 ^ 64
   pub most_fits : most < 2 ^ 64
 
+pub dot_no_digit : IsInRange 48 57 46 → ⊥
+dot_no_digit d = omega arith
+
+pub comma_no_digit : IsInRange 48 57 44 → ⊥
+comma_no_digit d = omega arith
+
+pub fits_999 : 999 < 2 ^ 64
+fits_999 = omega arith
+
+pub fits_65535 : 65535 < 2 ^ 64
+fits_65535 = omega arith
+
+pub fits_999999 : 999999 < 2 ^ 64
+fits_999999 = omega arith
+
 -- branch numbers, and stock rows
 abbrev pub branch_form : Form
-branch_form = record { mark = 46; low = 1; high = 999; least = 1; most = 65535; no_digit = λ d. omega arith; high_fits = omega arith; most_fits = omega arith }
+branch_form = record { mark = 46; low = 1; high = 999; least = 1; most = 65535; no_digit = dot_no_digit; high_fits = fits_999; most_fits = fits_65535 }
 
 abbrev pub row_form : Form
-row_form = record { mark = 44; low = 1; high = 999999; least = 0; most = 999; no_digit = λ d. omega arith; high_fits = omega arith; most_fits = omega arith }
+row_form = record { mark = 44; low = 1; high = 999999; least = 0; most = 999; no_digit = comma_no_digit; high_fits = fits_999999; most_fits = fits_999 }
 
 -- numbers of at most d and e digits
 pub pair_length : (d e mark a b : ℕ) → 0 < d → 0 < e → a < 10 ^ d → b < 10 ^ e → a < 2 ^ 64 → b < 2 ^ 64 → length (pair_text mark a b) ≤ d + 1 + e
@@ -172,3 +189,33 @@ module _ (f : Form) where
           record { first_least = x.1; first_most = x.2; second_least = y.1; second_most = y.2 },
           sym (sym (join_split f.mark t) ∙ ap (join f.mark) e ∙ ap₂ (λ q qs. join f.mark (q ∷ qs)) x.0 whole),
         )
+
+-- branch numbers keep the laws of an identifier, stock rows those of a content
+pub branches_kind : Identifiers lawful_branch branch_order 9
+branches_kind = record {
+  some = pair_some branch_form;
+  long = pair_longest branch_form 3 5 (omega arith) (omega arith) (omega arith) (omega arith) (codes "999.65535") refl refl;
+  short = omega arith;
+  plain = λ t l. (
+    pair_free branch_form 10 (λ d. omega arith) (λ e. omega arith) t l,
+    pair_free branch_form 58 (λ d. omega arith) (λ e. omega arith) t l,
+    pair_free branch_form 59 (λ d. omega arith) (λ e. omega arith) t l,
+  );
+  total = pair_total branch_form;
+}
+
+pub rows_kind : Contents lawful_row 10
+rows_kind = record {
+  long = pair_longest row_form 6 3 (omega arith) (omega arith) (omega arith) (omega arith) (codes "999999,999") refl refl;
+  short = omega arith;
+  plain = λ t l. (
+    pair_free row_form 10 (λ d. omega arith) (λ e. omega arith) t l,
+    pair_free row_form 59 (λ d. omega arith) (λ e. omega arith) t l,
+  );
+}
+
+pub branch_own : (branch serial : ℕ) → 1 ≤ branch → branch ≤ 999 → 1 ≤ serial → serial ≤ 65535 → lawful_branch (pair_text 46 branch serial) ≡ true
+branch_own branch serial low high least most = pair_lawful branch_form branch serial (record { first_least = low; first_most = high; second_least = least; second_most = most })
+
+pub row_own : (item copies : ℕ) → 1 ≤ item → item ≤ 999999 → copies ≤ 999 → lawful_row (pair_text 44 item copies) ≡ true
+row_own item copies low high most = pair_lawful row_form item copies (record { first_least = low; first_most = high; second_least = omega arith; second_most = most })

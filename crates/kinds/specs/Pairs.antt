@@ -1,5 +1,5 @@
 -- Texts of two numbers with a mark between them.
-use Rattle.std.specs.Prelude.{ℕ, Bool, false, ◌&&◌, List, [], ◌∷◌, ◌++◌, decimal, slice_index_or}
+use Rattle.std.specs.Prelude.{ℕ, Bool, false, ◌&&◌, [], ◌∷◌, ◌++◌, decimal, slice_index_or}
 use Rattle.std.specs.Str.Parse.{digits_value}
 use Rattle.graggle.specs.Texts.{Text, split, two}
 

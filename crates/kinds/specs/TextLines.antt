@@ -1,6 +1,6 @@
 -- Text lines: at most 60 bytes, every one from 32 to 126 and none 59, the semicolon.
 use Rattle.std.specs.Prelude.{◌≡◌, ℕ, ◌≤◌, Bool, not, ◌&&◌, length, ◌==◌, nat_le}
-use Rattle.std.specs.List.{AllByRecursion as All}
+use Rattle.std.specs.List.{AllByRecursion}
 use Rattle.graggle.specs.Texts.{Text, every}
 
 abbrev pub printable : ℕ → Bool
@@ -16,4 +16,4 @@ pub record Printable (c : ℕ) : Type 0 where
 
 pub record IsTextLine (t : Text) : Type 0 where
   pub short : length t ≤ 60
-  pub bytes : All Printable t
+  pub bytes : AllByRecursion Printable t

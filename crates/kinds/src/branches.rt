@@ -1,9 +1,8 @@
 // Branch numbers as identifiers: `B.S`, ordered by B and then by S.
-ghost use Rattle.std.specs.Prelude.{codes, Decides, refl};
+ghost use Rattle.std.specs.Prelude.{Decides};
 ghost use Rattle.kinds.specs.Pairs.{pair_text};
 ghost use Rattle.kinds.specs.BranchNumbers.{lawful_branch, branch_order, IsBranchNumber};
-ghost use Rattle.std.proofs.Common.{arith};
-ghost use Rattle.kinds.specs.Pairing.{branch_form, pair_some, pair_longest, pair_free, pair_total, pair_lawful};
+ghost use Rattle.kinds.specs.Pairing.{branches_kind, branch_own};
 
 use crate::branch::{BranchNumber, MOST_BRANCHES, MOST_SERIALS};
 use crate::identifier::Identifier;
@@ -24,21 +23,9 @@ impl Identifier for BranchNumber {
 
     ghost long = { 9 };
 
-    ghost kind = { record {
-      some = pair_some branch_form;
-      long = pair_longest branch_form 3 5 (omega arith) (omega arith) (omega arith) (omega arith) (codes "999.65535") refl refl;
-      short = omega arith;
-      plain = λ t l. (
-        pair_free branch_form 10 (λ d. omega arith) (λ e. omega arith) t l,
-        pair_free branch_form 58 (λ d. omega arith) (λ e. omega arith) t l,
-        pair_free branch_form 59 (λ d. omega arith) (λ e. omega arith) t l,
-      );
-      total = pair_total branch_form;
-    } };
+    ghost kind = { branches_kind };
 
-    ghost own = { λ x.
-        pair_lawful branch_form x.branch x.serial
-        (record { first_least = x.branch_low; first_most = x.branch_high; second_least = x.serial_low; second_most = x.serial_high }) };
+    ghost own = { λ x. branch_own x.branch x.serial x.branch_low x.branch_high x.serial_low x.serial_high };
 
     fn longest_text() -> usize {
         Self::LONGEST

@@ -1,9 +1,8 @@
 // Stock rows as contents: `item,copies`.
-ghost use Rattle.std.specs.Prelude.{codes, Decides, refl};
+ghost use Rattle.std.specs.Prelude.{Decides};
 ghost use Rattle.kinds.specs.Pairs.{pair_text};
 ghost use Rattle.kinds.specs.StockRows.{lawful_row, IsStockRow};
-ghost use Rattle.std.proofs.Common.{arith};
-ghost use Rattle.kinds.specs.Pairing.{row_form, pair_longest, pair_free, pair_lawful};
+ghost use Rattle.kinds.specs.Pairing.{rows_kind, row_own};
 
 use crate::content::Content;
 use crate::stock_row::{MOST_COPIES, MOST_ITEMS, StockRow};
@@ -21,18 +20,9 @@ impl Content for StockRow {
 
     ghost long = { 10 };
 
-    ghost kind = { record {
-      long = pair_longest row_form 6 3 (omega arith) (omega arith) (omega arith) (omega arith) (codes "999999,999") refl refl;
-      short = omega arith;
-      plain = λ t l. (
-        pair_free row_form 10 (λ d. omega arith) (λ e. omega arith) t l,
-        pair_free row_form 59 (λ d. omega arith) (λ e. omega arith) t l,
-      );
-    } };
+    ghost kind = { rows_kind };
 
-    ghost own = { λ x.
-        pair_lawful row_form x.item x.copies
-        (record { first_least = x.item_low; first_most = x.item_high; second_least = omega arith; second_most = x.copies_high }) };
+    ghost own = { λ x. row_own x.item x.copies x.item_low x.item_high x.copies_high };
 
     fn longest_text() -> usize {
         Self::LONGEST

@@ -2,7 +2,7 @@
 ghost use Rattle.std.specs.Prelude.{◌≡◌, ℕ, ◌<◌, Bool, ◌↔◌, List, [], ◌∷◌, length, IfOk, IfErr, MatchOption, OnSome};
 ghost use Rattle.graggle.specs.Texts.{Text, split};
 ghost use Rattle.graggle.specs.Kinds.{SameTexts};
-ghost use Rattle.graggle.specs.Entries.{Entry as Meant-entry};
+ghost use Rattle.graggle.specs.Entries.{Entry as MeantEntry};
 ghost use Rattle.graggle.specs.Reading.{values, read};
 ghost use Rattle.graggle.specs.Claims.{Refused, Writes};
 ghost use Rattle.patch.specs.declared.refusals.Cause.TheVariants.{Nothing};
@@ -96,7 +96,7 @@ impl<'t> Patch<'t> {
     // The patch that a text writes, or the text's first fault.
     pub fn read<I: Identifier, C: Content>(text: &'t [u8]) -> Result<Patch<'t>, Refusal<I>>
         ensures reads { Answers (held I.Identifier.lawful C.Content.lawful) (read I.Identifier.lawful C.Content.lawful text.now) result }
-        ensures means { (es : List Meant-entry) → Gives (held I.Identifier.lawful C.Content.lawful) result es ↔ Writes I.Identifier.lawful C.Content.lawful text.now es }
+        ensures means { (es : List MeantEntry) → Gives (held I.Identifier.lawful C.Content.lawful) result es ↔ Writes I.Identifier.lawful C.Content.lawful text.now es }
         ensures refuses { (n p : ℕ) → Refuses result n p ↔ Refused I.Identifier.lawful C.Content.lawful text.now n p }
         ensures alike { (ids contents : Text → Bool) → SameTexts I.Identifier.lawful ids → SameTexts C.Content.lawful contents → read I.Identifier.lawful C.Content.lawful text.now ≡ read ids contents text.now }
         ensures lies { IfOk result (LiesIn text.now) }

@@ -9,13 +9,13 @@ use Rattle.patch.proofs.LineSteps.{lines_behind, no_ending, no_heading}
 use Rattle.patch.proofs.Refusing.{answers_by, gives_what_is_written, plain_kinds, refused_with, refuses_for_the_first_fault}
 use Rattle.patch.proofs.reader.Patch.read.Goals as goal
 
-pub returns-in-default : goal.returns-in-default
-returns-in-default g c =
+pub returns-in_default : goal.returns-in_default
+returns-in_default g c =
     let ids = g.I.Identifier.lawful in
     let contents = g.C.Content.lawful in
     let plain = plain_kinds g.met.I.Identifier.kind g.met.C.Content.kind in
     let t = c.args.text.now in
-    let h = refused_with c.fault.result _ _ 1 c.fault.ensures (no_ending ids contents t c.in-default.ensures.parts) in
+    let h = refused_with c.fault.result _ _ 1 c.fault.ensures (no_ending ids contents t c.in_default.ensures.parts) in
     record {
       reads = h;
       means = gives_what_is_written (held ids contents) ids contents plain t (Err c.fault.result) h;
@@ -25,15 +25,15 @@ returns-in-default g c =
       fault = search rules;
     }
 
-pub returns-in-default-read : goal.returns-in-default-read
-returns-in-default-read g c =
+pub returns-in_default-read : goal.returns-in_default-read
+returns-in_default-read g c =
     let ids = g.I.Identifier.lawful in
     let contents = g.C.Content.lawful in
     let plain = plain_kinds g.met.I.Identifier.kind g.met.C.Content.kind in
     let t = c.args.text.now in
     let s = c.in-Some in
-    let r = c.fault-in-default-read in
-    let h = refused_with r.result _ _ 1 r.ensures (no_heading ids contents t s.heading.now s.values.now s.ensures.parts c.in-default-read.ensures) in
+    let r = c.fault-in_default-read in
+    let h = refused_with r.result _ _ 1 r.ensures (no_heading ids contents t s.heading.now s.values.now s.ensures.parts c.in_default-read.ensures) in
     record {
       reads = h;
       means = gives_what_is_written (held ids contents) ids contents plain t (Err r.result) h;
@@ -43,26 +43,26 @@ returns-in-default-read g c =
       fault = search rules;
     }
 
-pub returns-in-err-check_values : goal.returns-in-err-check_values
-returns-in-err-check_values g c =
+pub returns-in_err-check_values : goal.returns-in_err-check_values
+returns-in_err-check_values g c =
     let ids = g.I.Identifier.lawful in
     let contents = g.C.Content.lawful in
     let plain = plain_kinds g.met.I.Identifier.kind g.met.C.Content.kind in
     let t = c.args.text.now in
     let s = c.in-Some in
     let k = c.in-Some-read.ensures in
-    let e = c.in-err-check_values.ensures in
-    let r = c.from-residual.result in
-    let y = err_from_is_err_and r c.from-residual.ensures.1 in
-    let is : r ≡ Err c.in-err-check_values.field-0.0 = y.1 ∙ ap (λ x. Err x) y.2 in
+    let e = c.in_err-check_values.ensures in
+    let r = c.from_residual.result in
+    let y = err_from_is_err_and r c.from_residual.ensures.1 in
+    let is : r ≡ Err c.in_err-check_values.field-0.0 = y.1 ∙ ap (λ x. Err x) y.2 in
     let behind = lines_behind ids contents (places_of c.in-Some-read.columns) t s.heading.now s.values.now s.ensures.parts k.0 k.1 in
-    let h : Answers (held ids contents) (read ids contents t) r = subst (Answers (held ids contents) (read ids contents t)) (sym is) (answers_by (held ids contents) (Err c.in-err-check_values.field-0.0) behind e.reads) in
+    let h : Answers (held ids contents) (read ids contents t) r = subst (Answers (held ids contents) (read ids contents t)) (sym is) (answers_by (held ids contents) (Err c.in_err-check_values.field-0.0) behind e.reads) in
     record {
       reads = h;
       means = gives_what_is_written (held ids contents) ids contents plain t r h;
       refuses = refuses_for_the_first_fault (held ids contents) ids contents plain t r h;
       alike = equal_kinds_read_alike ids contents t;
-      lies = IfOk-from_err r _ c.from-residual.ensures.0;
+      lies = IfOk-from_err r _ c.from_residual.ensures.0;
       fault = subst (λ x. IfErr x (Tabled apply_gives)) (sym is) e.fault;
     }
 
@@ -75,7 +75,7 @@ returns g c =
     let s = c.in-Some in
     let k = c.in-Some-read.ensures in
     let p : Patch = record { columns = c.in-Some-read.columns; values = s.values } in
-    let h = lines_behind ids contents (places_of p.columns) t s.heading.now s.values.now s.ensures.parts k.0 k.1 ∙ c.in-ok-check_values.ensures.reads in
+    let h = lines_behind ids contents (places_of p.columns) t s.heading.now s.values.now s.ensures.parts k.0 k.1 ∙ c.in_ok-check_values.ensures.reads in
     record {
       reads = h;
       means = gives_what_is_written {I = g.row.I.Denot} (held ids contents) ids contents plain t (Ok p) h;
