@@ -1,12 +1,11 @@
 -- The steps of reading value lines.
-use Rattle.std.proofs.Common.{◌≡◌, ℕ, ◌+◌, ◌<◌, ◌≤◌, Bool, true, false, cond, eqb, List, [], ◌∷◌, length, get_or, Some, None, Option, sym, refl, ap, ◌∙◌, subst, arith}
+use Rattle.std.proofs.Common.{◌≡◌, ℕ, ◌+◌, Bool, true, false, cond, eqb, List, [], ◌∷◌, length, get_or, None, sym, refl, ap, ◌∙◌, subst, arith}
 use Rattle.std.proofs.lemmas.Bool.{cond-true, cond-false, eq-eqb, ne_eqb}
 use Rattle.graggle.specs.Texts.{Text, split, join}
-use Rattle.graggle.specs.Entries.{Entry, Reading, Column}
+use Rattle.graggle.specs.Entries.{Entry, Column}
 use Rattle.graggle.specs.Entries.Column.{act, line, to, text}
 use Rattle.graggle.specs.Entries.Reading.{unread, entries}
 use Rattle.graggle.specs.Reading.{act_of, cell, entry, found, heads_fit, last, letter, lines, more, read, value_line, then, values}
-use Rattle.graggle.specs.Reading.Said.{wrong, says}
 use Rattle.graggle.proofs.Splitting.{SomePiece, some_piece, join_split}
 use Rattle.graggle.proofs.Splitting.SomePiece.{pieces}
 use Rattle.patch.specs.Meant.{Ahead, Amiss, coming, heard}

@@ -1,5 +1,5 @@
 -- The steps of reading, writing and comparing a name.
-use Rattle.std.proofs.Common.{◌≡◌, ℕ, ◌+◌, ◌<◌, ◌≤◌, Bool, true, false, cond, ◌↔◌, List, [], ◌∷◌, ◌++◌, length, Some, None, decimal, Decides, Option, Ordering, Less, Equal, Greater, sym, refl, ap, ◌∙◌, subst, arith, length-append}
+use Rattle.std.proofs.Common.{◌≡◌, ℕ, ◌≤◌, Bool, true, false, ◌↔◌, [], ◌∷◌, ◌++◌, length, Some, None, decimal, Decides, Option, Ordering, Less, Equal, Greater, sym, refl, ap, ◌∙◌, arith, length-append}
 use Rattle.std.specs.Ordering.{is_eq}
 use Rattle.std.proofs.lemmas.Bool.{cond-true, cond-false, cond_both, false≢true}
 use Rattle.std.proofs.lemmas.Fmt.{length-decimal-le}

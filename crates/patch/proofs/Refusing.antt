@@ -1,5 +1,5 @@
 -- What the reader's answer says, by the reading.
-use Rattle.std.proofs.Common.{◌≡◌, ℕ, Bool, ◌↔◌, List, Ok, Err, Result, Ordering, sym, refl, ap, ◌∙◌, subst, arith}
+use Rattle.std.proofs.Common.{◌≡◌, ℕ, Bool, ◌↔◌, List, Ok, Err, Result, Ordering, sym, ap, ◌∙◌, subst, arith}
 use Rattle.graggle.specs.Texts.{Text}
 use Rattle.graggle.specs.Kinds.{Contents, Identifiers}
 use Rattle.graggle.specs.Entries.{Entry, Reading}

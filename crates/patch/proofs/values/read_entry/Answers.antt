@@ -1,4 +1,4 @@
-use Rattle.std.proofs.Common.{◌≡◌, sym, ap, ◌∙◌, arith}
+use Rattle.std.proofs.Common.{sym, ap, ◌∙◌, arith}
 use Rattle.graggle.specs.Texts.{split}
 use Rattle.graggle.specs.Reading.{entry, letter}
 use Rattle.patch.specs.Meant.{places_of}

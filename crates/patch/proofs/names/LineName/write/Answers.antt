@@ -1,4 +1,4 @@
-use Rattle.std.proofs.Common.{◌≡◌, decimal, ap, ◌∙◌, ap₂, arith}
+use Rattle.std.proofs.Common.{decimal, ap, ◌∙◌, ap₂, arith}
 use Rattle.texts.specs.Shown.{filled, pushed}
 use Rattle.patch.proofs.NameSteps.{name_filled}
 use Rattle.patch.proofs.names.LineName.write.Goals as goal
