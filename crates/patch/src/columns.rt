@@ -17,8 +17,7 @@ pub struct Columns {
 
 // Which of the four pieces of the heading is this name.
 fn place_of(heading: &[u8], name: &[u8]) -> Option<usize>
-    requires { length (split 59 heading.now) ≡ 4 }
-    ensures { MatchOption result (has name.now (split 59 heading.now) ≡ false) (λ i. (has name.now (split 59 heading.now) ≡ true) × (i ≡ place name.now (split 59 heading.now))) }
+    ensures { length (split 59 heading.now) ≡ 4 → MatchOption result (has name.now (split 59 heading.now) ≡ false) (λ i. (has name.now (split 59 heading.now) ≡ true) × (i ≡ place name.now (split 59 heading.now))) }
 {
     for at in 0..4 {
         if piece(heading, b';', at) == name {
