@@ -25,10 +25,10 @@ pub(crate) fn read_saying<'t>(line: &'t [u8]) -> Saying<'t> {
     if let Some(id) = line.strip_prefix(b"unapply ") {
         return Saying::Unapply(id);
     }
-    if line == b"page" {
+    if line == b"page".as_slice() {
         return Saying::Page;
     }
-    if line == b"end" {
+    if line == b"end".as_slice() {
         return Saying::End;
     }
     Saying::Other

@@ -8,7 +8,7 @@ use texts::pieces::piece;
 fn forked(sheet: &Sheet) -> usize {
     let mut count: usize = 0;
     for line in as_text(sheet.as_slice()).lines() {
-        if piece(line.as_bytes(), b';', 1) == b"fork" {
+        if piece(line.as_bytes(), b';', 1) == b"fork".as_slice() {
             count = count.saturating_add(1);
         }
     }

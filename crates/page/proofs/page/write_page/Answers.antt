@@ -1,7 +1,6 @@
-use Rattle.std.proofs.Common.{◌≡◌, ℕ, ◌-◌, ◌<◌, ◌≤◌, length, take, sym, refl, ◌∙◌, subst, arith}
+use Rattle.std.proofs.Common.{◌≡◌, ℕ, ◌-◌, ◌<◌, length, take, sym, refl, ◌∙◌, subst, arith}
 use borrow.Rule.Slice.PartMut.{Post-is}
 use Rattle.std.proofs.lemmas.List.{drop_at, length-take-le}
-use Rattle.patch.specs.declared.refusals.Refusal.{Refusal}
 use Rattle.patch.specs.Refusals.{Tabled, page_gives}
 use Rattle.page.proofs.page.write_page.Goals as goal
 
