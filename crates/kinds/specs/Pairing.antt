@@ -30,6 +30,7 @@ pub record Form : Type 0 where
   pub high_fits : high < 2 ^ 64
   pub most_fits : most < 2 ^ 64
 
+-- the marks are no digits, and the greatest numbers fit in 64 bits
 pub dot_no_digit : IsInRange 48 57 46 → ⊥
 dot_no_digit d = omega arith
 

@@ -10,6 +10,7 @@ pub trait Content: Copy {
     // The length of the longest lawful text.
     const LONGEST: usize;
 
+    // What a kind means: its lawful texts, the text of each value, and the length of the longest lawful text.
     ghost lawful: { Text → Bool };
 
     ghost text: { Self → Text };
@@ -28,6 +29,7 @@ pub trait Content: Copy {
     fn write(&self) -> ShortText
         ensures { shown result ≡ text self.now };
 
+    // Two laws, which each impl proves: the lawful texts make a kind of content, and every value's text is lawful.
     ghost kind: { Contents lawful long };
 
     ghost own: { (x : Self) → lawful (text x) ≡ true };

@@ -12,6 +12,7 @@ pub trait Identifier: Copy {
     // The length of the longest lawful text.
     const LONGEST: usize;
 
+    // What a kind means: its lawful texts, their order, the text of each value, and the length of the longest lawful text.
     ghost lawful: { Text → Bool };
 
     ghost order: { Text → Text → Ranking };
@@ -36,6 +37,7 @@ pub trait Identifier: Copy {
     fn compare(&self, other: &Self) -> Ordering
         ensures { result ≡ order (text self.now) (text other.now) };
 
+    // Two laws, which each impl proves: the lawful texts and their order make a kind of identifier, and every value's text is lawful.
     ghost kind: { Identifiers lawful order long };
 
     ghost own: { (x : Self) → lawful (text x) ≡ true };
