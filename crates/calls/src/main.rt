@@ -11,11 +11,7 @@ use std::io;
 
 fn main(rt: HostRuntime) -> io::Result<()> {
     let report = Report { rt: &rt };
-    small::readings(&report)?;
-    small::entries(&report)?;
-    small::capacities(&report)?;
-    small::no_room_at_all(&report)?;
-    small::unapplies(&report)?;
+    small::volumes(&report)?;
     memory::page_memory(&report)?;
     report.title("What the script tool refuses")?;
     report.refusal("line 7 is no command", &script::tool::script_fault(7))

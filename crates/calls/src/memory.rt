@@ -2,7 +2,7 @@
 use crate::show::Report;
 use flat::flat_store::FlatStore;
 use kinds::branch::BranchNumber;
-use lending::memory::any_line;
+use lending::memory::LoanLine;
 use std::io;
 use store::store::Store;
 use volume::volume::Volume;
@@ -16,9 +16,8 @@ fn ask<S: Store<Id = BranchNumber>>(
     len: usize,
 ) -> io::Result<()> {
     let mut memory = [255; 64];
-    let all = &mut memory[..];
-    let end = len.min(all.len());
-    let answer = volume.page(&mut all[0..end]);
+    let end = len.min(memory.len());
+    let answer = volume.page(&mut memory[..end]);
     println!(report.rt; "  {end} bytes of memory")?;
     match answer {
         Ok(page) => {
@@ -38,7 +37,7 @@ fn ask<S: Store<Id = BranchNumber>>(
 
 pub(crate) fn page_memory(report: &Report) -> io::Result<()> {
     report.title("A page of 59 bytes in memory that holds the byte 255")?;
-    let mut lines = [any_line(); 1];
+    let mut lines = [LoanLine::default(); 1];
     let mut volume = Volume::new(FlatStore::new(&mut lines, &mut [], &mut []));
     let taken = volume.apply(b"1.1", b"act;line;to;text\na;1.1:0;;Two weeks a loan\n");
     report.answer("one line", &taken)?;

@@ -1,11 +1,8 @@
 // One line of the report for each call.
 use kinds::branch::BranchNumber;
-use kinds::identifier::Identifier;
-use patch::names::NameText;
-use patch::refusals::{Cause, Layer, Refusal};
-use std::io;
-use std::io::Write;
-use texts::text::Text;
+use kinds::written::Written;
+use patch::refusals::{Cause, Refusal};
+use std::{fmt, io, str};
 
 pub type Answer = Result<(), Refusal<BranchNumber>>;
 
@@ -14,24 +11,27 @@ pub struct Report<'r> {
     pub rt: &'r HostRuntime,
 }
 
-fn layer_name(layer: Layer) -> &'static str {
-    match layer {
-        Layer::Reader => "reader",
-        Layer::Volume => "volume",
-        Layer::Store => "store",
-        Layer::Page => "page",
-        Layer::Tool => "tool",
+// A text of the library. All that the report shows is ASCII.
+#[derive(Clone, Copy)]
+struct Shown<'t>(&'t [u8]);
+
+impl fmt::Display for Shown<'_> {
+    fn fmt<W: fmt::Write>(&self, f: &mut fmt::Formatter<W>) -> fmt::Result {
+        f.write_str(str::from_utf8(self.0).unwrap_or("(unreadable)"))
     }
 }
 
-fn cause_text(cause: &Cause<BranchNumber>) -> NameText {
-    let mut text = Text::new();
-    match cause {
-        Cause::Nothing => text.append(b"none"),
-        Cause::Patch(patch) => text.append(patch.write().as_slice()),
-        Cause::Line(name) => text.append(name.write().as_slice()),
+#[derive(Clone, Copy)]
+struct CauseText(Cause<BranchNumber>);
+
+impl fmt::Display for CauseText {
+    fn fmt<W: fmt::Write>(&self, f: &mut fmt::Formatter<W>) -> fmt::Result {
+        match self.0 {
+            Cause::Nothing => write!(f, "none"),
+            Cause::Patch(patch) => write!(f, "{}", Shown(patch.write().as_slice())),
+            Cause::Line(name) => write!(f, "{}", Shown(name.write().as_slice())),
+        }
     }
-    text
 }
 
 impl Report<'_> {
@@ -42,12 +42,11 @@ impl Report<'_> {
     pub(crate) fn refusal(&self, what: &str, refusal: &Refusal<BranchNumber>) -> io::Result<()> {
         let number = refusal.reason.number();
         let place = refusal.place;
-        print!(self.rt; "  {what}: refused, number {number}, place {place}, cause ")?;
-        self.rt
-            .stdout()
-            .write_all(cause_text(&refusal.cause).as_slice())?;
-        let layer = layer_name(refusal.layer);
-        println!(self.rt; ", layer {layer}")
+        let cause = CauseText(refusal.cause);
+        let layer = refusal.layer;
+        println!(self.rt;
+            "  {what}: refused, number {number}, place {place}, cause {cause}, layer {layer}"
+        )
     }
 
     pub(crate) fn answer(&self, what: &str, answer: &Answer) -> io::Result<()> {

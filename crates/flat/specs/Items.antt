@@ -1,5 +1,5 @@
--- What a table means, whatever its three fields are.
-use Rattle.std.specs.Prelude.{ℕ, min, List, length, take}
+-- What a table means.
+use Rattle.std.specs.Prelude.{ℕ, List, length, take}
 use Rattle.flat.specs.declared.table.Table.{Table}
 
 -- the records of a table, in order
@@ -8,4 +8,4 @@ items t = take t.count t.slots.now
 
 -- how many records it may have
 abbrev pub room : {R : Type 0} → Table R → ℕ
-room t = min t.most (length t.slots.now)
+room t = length t.slots.now

@@ -35,6 +35,7 @@ impl<'m, I: Identifier, C: Content> FlatStore<'m, I, C> {
     }
 }
 
+// Three times the same, one for each list: `Store` says why.
 impl<'m, I: Identifier, C: Content> Store for FlatStore<'m, I, C> {
     type Id = I;
 

@@ -4,6 +4,7 @@ pub mod Ordered
 pub mod Naming
 pub mod Columns
 pub mod ValueLines
+pub mod Cases
+pub mod Readings
 pub mod Whole
-pub mod Refusals
 pub mod Refusing

@@ -15,7 +15,7 @@ module _ (ids : Text → Bool) where
       ∙ ap (with_patch n.patch) (number_written 0 255 (omega arith) n.index (omega arith) w.short)
 
   with_from : (i t : Text) (n : Name) (o : Option ℕ) → number 0 255 t ≡ o → with_patch i o ≡ Some n → (i ≡ n.patch) × (t ≡ decimal n.index) × (n.index ≤ 255)
-  with_from i t n None q h = let z : ◌≡◌ {A = ℕ} 0 1 = cc in absurd (omega arith)
+  with_from i t n None q h = cc
   with_from i t n (Some k) q h =
       let m : Name = record { patch = i; index = k } in
       let e : m ≡ n = cc in
@@ -23,14 +23,14 @@ module _ (ids : Text → Bool) where
       (ap (λ (x : Name). x.patch) e, j.0 ∙ ap (λ (x : Name). decimal x.index) e, subst (λ (x : Name). x.index ≤ 255) e j.2)
 
   parts_from : (ps : List Text) (n : Name) → two None (named ids) ps ≡ Some n → (join 58 ps ≡ name_text n) × WellNamed ids n
-  parts_from [] n h = let z : ◌≡◌ {A = ℕ} 0 1 = cc in absurd (omega arith)
-  parts_from (i ∷ []) n h = let z : ◌≡◌ {A = ℕ} 0 1 = cc in absurd (omega arith)
+  parts_from [] n h = cc
+  parts_from (i ∷ []) n h = cc
   parts_from (i ∷ t ∷ []) n h0 = cond_both (ids i) (with_patch i (number 0 255 t)) None (λ o. o ≡ Some n → (i ++ (58 ∷ t) ≡ name_text n) × WellNamed ids n)
       (λ e h.
       let w = with_from i t n (number 0 255 t) refl h in
       ((λ d. w.0 d ++ (58 ∷ w.1 d)), record { lawful = subst (λ x. ids x ≡ true) w.0 e; short = w.2 }))
-      (λ e h. let z : ◌≡◌ {A = ℕ} 0 1 = cc in absurd (omega arith)) h0
-  parts_from (i ∷ t ∷ m ∷ ps) n h = let z : ◌≡◌ {A = ℕ} 0 1 = cc in absurd (omega arith)
+      (λ e h. cc) h0
+  parts_from (i ∷ t ∷ m ∷ ps) n h = cc
 
   pub name_from : (t : Text) (n : Name) → name ids t ≡ Some n → (t ≡ name_text n) × WellNamed ids n
   name_from t n h = let w = parts_from (split 58 t) n h in (sym (join_split 58 t) ∙ w.0, w.1)

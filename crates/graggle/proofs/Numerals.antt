@@ -1,9 +1,10 @@
 -- Numbers in texts: told just where they are written.
-use Rattle.std.proofs.Common.{◌≡◌, ℕ, ◌^◌, ◌<◌, ◌≤◌, true, false, not, ◌||◌, eqb, ltb, leb, ◌↔◌, length, get_or, Some, None, decimal, Option, sym, ap, ◌∙◌, subst, ⊎_elim, arith}
+use Rattle.std.proofs.Common.{◌≡◌, ℕ, ◌^◌, ◌<◌, ◌≤◌, true, false, ◌↔◌, length, get_or, Some, None, decimal, Option, sym, ap, ◌∙◌, subst, ⊎_elim, arith}
 use Rattle.std.specs.Str.Parse.{digits_value}
 use Rattle.std.specs.Int.{IsInRange}
 use Rattle.std.specs.Str.{all_ascii_digits}
-use Rattle.std.proofs.lemmas.Bool.{cond_both, cond-true, and_parts, and_from, or_cases, or_left, or_right, ltb-true, lt-ltb, leb-true, le-leb, not-true, not_from_false, eqb-false, ne_eqb, cases_eq, cases_Bool}
+use Rattle.std.proofs.lemmas.Bool.{cond_both, cond-true, and_parts, cases_eq, false_from_ne_true}
+use Rattle.std.proofs.lemmas.Bool.Decides.{nat_tests}
 use Rattle.std.proofs.lemmas.Str.Parse.{IsNumeralModel, numerals_by_value, tells_all_ascii_digits, not_in_digits}
 use Rattle.std.proofs.lemmas.Fmt.{decimal-digits_value, digits_decimal, digits_value-decimal, first_decimal, decimal_nonempty, decimal_digit}
 use Rattle.std.proofs.ByRecursion.{All-from_get_or}
@@ -21,25 +22,7 @@ decimal_free b n h out =
 pub told_value : (n : ℕ) → n < 2 ^ 64 → digits_value 10 (decimal n) ≡ n
 told_value n h = digits_value-decimal digits_told n h
 
-no_zero : (n : ℕ) → n < 2 ^ 64 → (ltb (length (decimal n)) 2 || not (eqb (get_or (decimal n) 0 0) 48)) ≡ true
-no_zero n h =
-    ⊎_elim
-    (λ z. or_left (ltb (length (decimal n)) 2) _ (ap (λ t. ltb (length t) 2) (ap decimal z ∙ decimal_digit 0 (omega arith))))
-    (λ s. or_right _ _ (not_from_false _ (ne_eqb (get_or (decimal n) 0 0) 48 (λ e. let f = first_decimal n (omega arith) h in omega (arith, f, e)))))
-    (cases_eq n 0)
-
 module _ (low high : ℕ) (fits : high < 2 ^ 64) where
-  pub numeral_written : (n : ℕ) → low ≤ n → n ≤ high → numeral low high (decimal n) ≡ true
-  numeral_written n l h =
-      let v = told_value n (omega arith) in
-      and_from _ _ (digits_decimal digits_told n (omega arith))
-      (and_from _ _ (lt-ltb 0 (length (decimal n)) (decimal_nonempty n (omega arith)))
-      (and_from _ _ (no_zero n (omega arith))
-      (and_from _ _ (le-leb low (digits_value 10 (decimal n)) (omega (arith, v))) (le-leb (digits_value 10 (decimal n)) high (omega (arith, v))))))
-
-  pub number_written : (n : ℕ) → low ≤ n → n ≤ high → number low high (decimal n) ≡ Some n
-  number_written n l h = cond-true (numeral low high (decimal n)) _ _ (numeral_written n l h) ∙ ap Some (told_value n (omega arith))
-
   pub record Told (t : Text) : Type 0 where
     pub digits : all_ascii_digits t ≡ true
     pub some : 0 < length t
@@ -51,32 +34,29 @@ module _ (low high : ℕ) (fits : high < 2 ^ 64) where
   pub numeral_told : (t : Text) → numeral low high t ≡ true → Told t
   numeral_told t e =
       let p = and_parts (all_ascii_digits t) _ e in
-      let q = and_parts (ltb 0 (length t)) _ p.1 in
-      let r = and_parts (ltb (length t) 2 || not (eqb (get_or t 0 0) 48)) _ q.1 in
-      let s = and_parts (leb low (digits_value 10 t)) _ r.1 in
-      let some : 0 < length t = ltb-true 0 (length t) q.0 in
-      let least : low ≤ digits_value 10 t = leb-true _ _ s.0 in
-      let most : digits_value 10 t ≤ high = leb-true _ _ s.1 in
-      let one : get_or t 0 0 ≡ 48 → length t ≡ 1 = λ z.
-      ⊎_elim (λ x. let k = ltb-true (length t) 2 x in omega (arith, some, k)) (λ x. absurd (eqb-false (get_or t 0 0) 48 (not-true _ x) z)) (or_cases (ltb (length t) 2) _ r.0) in
+      let facts : (0 < length t) × ((get_or t 0 0 ≡ 48 → length t ≡ 1) × ((low ≤ digits_value 10 t) × (digits_value 10 t ≤ high))) = grind (arith, nat_tests, and_parts) in
       record {
         digits = p.0;
-        some = some;
-        zero = one;
-        least = least;
-        most = most;
-        text = sym (decimal-digits_value digits_told t p.0 some one (omega arith));
+        some = facts.0;
+        zero = facts.1.0;
+        least = facts.1.1.0;
+        most = facts.1.1.1;
+        text = sym (decimal-digits_value digits_told t p.0 facts.0 facts.1.0 (omega arith));
       }
 
   pub told_numeral : (t : Text) → all_ascii_digits t ≡ true → 0 < length t → (get_or t 0 0 ≡ 48 → length t ≡ 1) → low ≤ digits_value 10 t → digits_value 10 t ≤ high → numeral low high t ≡ true
-  told_numeral t d s z l h =
-      and_from _ _ d (and_from _ _ (lt-ltb 0 (length t) s) (and_from _ _ start (and_from _ _ (le-leb low (digits_value 10 t) l) (le-leb (digits_value 10 t) high h))))
+  told_numeral t d s z l h = grind (arith, nat_tests)
+
+  pub numeral_written : (n : ℕ) → low ≤ n → n ≤ high → numeral low high (decimal n) ≡ true
+  numeral_written n l h =
+      let v = told_value n (omega arith) in
+      told_numeral (decimal n) (digits_decimal digits_told n (omega arith)) (decimal_nonempty n (omega arith)) zero (omega (arith, v)) (omega (arith, v))
     where
-      start : (ltb (length t) 2 || not (eqb (get_or t 0 0) 48)) ≡ true
-      start = ⊎_elim
-          (λ e. or_left (ltb (length t) 2) _ (lt-ltb (length t) 2 (omega (arith, z e))))
-          (λ n. or_right _ _ (not_from_false _ (ne_eqb (get_or t 0 0) 48 n)))
-          (cases_eq (get_or t 0 0) 48)
+      zero : get_or (decimal n) 0 0 ≡ 48 → length (decimal n) ≡ 1
+      zero e = ⊎_elim (λ z. ap length (ap decimal z ∙ decimal_digit 0 (omega arith))) (λ s. absurd (let f = first_decimal n (omega arith) (omega arith) in omega (arith, f, e))) (cases_eq n 0)
+
+  pub number_written : (n : ℕ) → low ≤ n → n ≤ high → number low high (decimal n) ≡ Some n
+  number_written n l h = cond-true (numeral low high (decimal n)) _ _ (numeral_written n l h) ∙ ap Some (told_value n (omega arith))
 
   pub number_from : (t : Text) (n : ℕ) → number low high t ≡ Some n → (t ≡ decimal n) × (low ≤ n) × (n ≤ high)
   number_from t n = cond_both (numeral low high t) (Some (digits_value 10 t)) None (λ o. o ≡ Some n → (t ≡ decimal n) × (low ≤ n) × (n ≤ high))
@@ -84,7 +64,7 @@ module _ (low high : ℕ) (fits : high < 2 ^ 64) where
       let v : digits_value 10 t ≡ n = cc in
       let i = numeral_told t e in
       (i.text ∙ ap decimal v, omega (arith, i.least, v), omega (arith, i.most, v)))
-      (λ e s. let z : ◌≡◌ {A = ℕ} 0 1 = cc in absurd (omega arith))
+      (λ e s. cc)
 
   -- a text tells a number exactly where the number writes it
   pub numbers_mean : (t : Text) (o : Option ℕ) → o ≡ number low high t → (n : ℕ) → (o ≡ Some n) ↔ Numeral low high t n
@@ -98,4 +78,4 @@ module _ (low high : ℕ) (fits : high < 2 ^ 64) where
 
   -- a text with a byte that is no digit tells nothing
   pub numeral_none : (b : ℕ) → (IsInRange 48 57 b → ⊥) → (t : Text) → (Free b t → ⊥) → numeral low high t ≡ false
-  numeral_none b out t h = ⊎_elim (λ e. absurd (h (numeral_free b out t e))) (λ e. e) (cases_Bool (numeral low high t))
+  numeral_none b out t h = false_from_ne_true (numeral low high t) (λ e. h (numeral_free b out t e))

@@ -1,52 +1,32 @@
 -- Orders that are total: of numbers, of texts by their bytes, and of pairs by their parts.
-use Rattle.std.proofs.Common.{◌≡◌, ℕ, ◌<◌, Bool, true, [], ◌∷◌, Ordering, Less, Equal, Greater, sym, refl, ap, ◌∙◌, subst, ap₂, true≢false}
-use Rattle.std.specs.Ordering.{is_lt, is_gt, ordering_reverse, ordering_then, MatchOrdering, nat_cmp}
-use Rattle.std.specs.Cmp.{ranks, nat_cmp_total, tied_itself}
+use Rattle.std.proofs.Common.{◌≡◌, ℕ, Bool, true, Ordering, Less, Equal, Greater, sym, refl, ap, ◌∙◌}
+use Rattle.std.specs.Ordering.{ordering_then, nat_cmp}
+use Rattle.std.specs.Cmp.{IsTotalOrder, then_flip}
+use Rattle.std.proofs.lemmas.Cmp.{nat_cmp_total, nat_list_cmp_total, tied_itself}
+use Rattle.std.proofs.lemmas.Map.Lookups.{CmpEqualImpliesEq, exact_unsigned, exact_bytes}
 use Rattle.graggle.specs.Texts.{Text}
 use Rattle.graggle.specs.Orders.{Total, by_bytes}
 use Rattle.graggle.specs.Names.{Name, name_order}
-use Rattle.std.specs.Cmp.Lexicographic.{lists_total}
 
-pub number_equal : (m n : ℕ) → nat_cmp m n ≡ Equal → m ≡ n
-number_equal m n e = subst (λ (o : Ordering). MatchOrdering o (m < n) (m ≡ n) (n < m)) e (ranks m n)
-
-pub number_same : (n : ℕ) → nat_cmp n n ≡ Equal
-number_same n = tied_itself nat_cmp_total n
+-- an order that is total of all things, and tells them apart
+whole : {A : Type 0} {R : A → A → Ordering} → IsTotalOrder R → CmpEqualImpliesEq R → (P : A → Type 0) → Total P R
+whole {R = R} o exact P = record {
+  same = λ x y _ _. (exact x y, λ e. ap (R x) (sym e) ∙ tied_itself o x);
+  turned = λ x y _ _. o.antisymm y x;
+  chain = λ x y z _ _ _. o.trans x y z;
+}
 
 pub numbers_total : (P : ℕ → Type 0) → Total P nat_cmp
-numbers_total P = record {
-  same = λ m n _ _. (number_equal m n, λ e. ap (nat_cmp m) (sym e) ∙ number_same m);
-  turned = λ m n _ _. nat_cmp_total.antisymm n m;
-  chain = λ l m n _ _ _. nat_cmp_total.trans l m n;
-}
-
--- both answers are Equal
-pub then_equal : (a b : Ordering) → ordering_then a b ≡ Equal → (a ≡ Equal) × (b ≡ Equal)
-then_equal Less b e = absurd (true≢false (ap is_lt e))
-then_equal Equal b e = (refl, e)
-then_equal Greater b e = absurd (true≢false (ap is_gt e))
-
-then_turned : (a b : Ordering) → ordering_then (ordering_reverse a) (ordering_reverse b) ≡ ordering_reverse (ordering_then a b)
-then_turned Less b = refl
-then_turned Equal b = refl
-then_turned Greater b = refl
-
-bytes_equal : (s t : Text) → by_bytes s t ≡ Equal → s ≡ t
-bytes_equal [] [] e = refl
-bytes_equal [] (c ∷ t) e = absurd (true≢false (ap is_lt e))
-bytes_equal (b ∷ s) [] e = absurd (true≢false (ap is_gt e))
-bytes_equal (b ∷ s) (c ∷ t) e = let k = then_equal (nat_cmp b c) (by_bytes s t) e in ap₂ (λ x xs. x ∷ xs) (number_equal b c k.0) (bytes_equal s t k.1)
-
-bytes_same : (t : Text) → by_bytes t t ≡ Equal
-bytes_same [] = refl
-bytes_same (c ∷ t) = ap (λ o. ordering_then o (by_bytes t t)) (number_same c) ∙ bytes_same t
+numbers_total = whole nat_cmp_total exact_unsigned
 
 pub bytes_total : (P : Text → Type 0) → Total P by_bytes
-bytes_total P = record {
-  same = λ s t _ _. (bytes_equal s t, λ e. ap (by_bytes s) (sym e) ∙ bytes_same s);
-  turned = λ s t _ _. (lists_total nat_cmp_total).antisymm t s;
-  chain = λ s t u _ _ _. (lists_total nat_cmp_total).trans s t u;
-}
+bytes_total = whole nat_list_cmp_total exact_bytes
+
+-- both answers are Equal
+then_equal : (a b : Ordering) → ordering_then a b ≡ Equal → (a ≡ Equal) × (b ≡ Equal)
+then_equal Less b e = cc
+then_equal Equal b e = (refl, e)
+then_equal Greater b e = cc
 
 -- by a first part and then by a second, where the two parts together tell the things apart
 module _ {X A B : Type 0} {P : A → Type 0} {Q : B → Type 0} {o : A → A → Ordering} {p : B → B → Ordering} (a : Total P o) (b : Total Q p) (R : X → Type 0) (f : X → A) (g : X → B) (first : (x : X) → R x → P (f x)) (second : (x : X) → R x → Q (g x)) (apart : (x y : X) → R x → R y → f x ≡ f y → g x ≡ g y → x ≡ y) where
@@ -64,24 +44,18 @@ module _ {X A B : Type 0} {P : A → Type 0} {Q : B → Type 0} {o : A → A →
       ∙ (b.same (g x) (g x) (second x h) (second x h)).1 refl
 
   steps : (x y z : X) → R x → R y → R z → (k m : Ordering) → o (f x) (f y) ≡ k → o (f y) (f z) ≡ m → ordering_then k (p (g x) (g y)) ≡ Less → ordering_then m (p (g y) (g z)) ≡ Less → both x z ≡ Less
-  steps x y z h i j Less Less e d l m = ap (λ k. ordering_then k (p (g x) (g z))) (a.chain (f x) (f y) (f z) (first x h) (first y i) (first z j) e d)
-  steps x y z h i j Less Equal e d l m =
-      let q = (a.same (f y) (f z) (first y i) (first z j)).0 d in
-      ap (λ k. ordering_then k (p (g x) (g z))) (ap (o (f x)) (sym q) ∙ e)
-  steps x y z h i j Less Greater e d l m = absurd (true≢false (ap is_gt m))
-  steps x y z h i j Equal Less e d l m =
-      let q = (a.same (f x) (f y) (first x h) (first y i)).0 e in
-      ap (λ k. ordering_then k (p (g x) (g z))) (ap (λ v. o v (f z)) q ∙ d)
-  steps x y z h i j Equal Equal e d l m =
-      let q = (a.same (f x) (f y) (first x h) (first y i)).0 e in
-      ap (λ k. ordering_then k (p (g x) (g z))) (ap (λ v. o v (f z)) q ∙ d) ∙ b.chain (g x) (g y) (g z) (second x h) (second y i) (second z j) l m
-  steps x y z h i j Equal Greater e d l m = absurd (true≢false (ap is_gt m))
-  steps x y z h i j Greater n e d l m = absurd (true≢false (ap is_gt l))
+  steps x y z h i j Less Less e d l m = rw (a.chain (f x) (f y) (f z) (first x h) (first y i) (first z j) e d)
+  steps x y z h i j Less Equal e d l m = rw (← (a.same (f y) (f z) (first y i) (first z j)).0 d, e)
+  steps x y z h i j Less Greater e d l m = cc
+  steps x y z h i j Equal Less e d l m = rw ((a.same (f x) (f y) (first x h) (first y i)).0 e, d)
+  steps x y z h i j Equal Equal e d l m = rw ((a.same (f x) (f y) (first x h) (first y i)).0 e, d) (b.chain (g x) (g y) (g z) (second x h) (second y i) (second z j) l m)
+  steps x y z h i j Equal Greater e d l m = cc
+  steps x y z h i j Greater n e d l m = cc
 
   pub parts_total : Total R (λ x y. ordering_then (o (f x) (f y)) (p (g x) (g y)))
   parts_total = record {
     same = λ x y h k. (equal x y h k, λ e. ap (both x) (sym e) ∙ itself x h);
-    turned = λ x y h k. (λ i. ordering_then (a.turned (f x) (f y) (first x h) (first y k) i) (b.turned (g x) (g y) (second x h) (second y k) i)) ∙ then_turned (o (f x) (f y)) (p (g x) (g y));
+    turned = λ x y h k. (λ i. ordering_then (a.turned (f x) (f y) (first x h) (first y k) i) (b.turned (g x) (g y) (second x h) (second y k) i)) ∙ then_flip (o (f x) (f y)) (p (g x) (g y));
     chain = λ x y z h i j. steps x y z h i j (o (f x) (f y)) (o (f y) (f z)) refl refl;
   }
 

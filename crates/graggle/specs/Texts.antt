@@ -1,6 +1,6 @@
 -- Texts, and their pieces between marks: split at byte 10, a text's lines; split at a semicolon, a line's values; split at a colon, a name's parts.
-use Rattle.std.specs.Prelude.{ℕ, suc, Bool, true, false, cond, ◌&&◌, List, [], ◌∷◌, ◌++◌, ◌==◌, ◌≢◌}
-use Rattle.std.specs.List.{AllByRecursion}
+use Rattle.std.specs.Prelude.{ℕ, suc, Bool, true, false, cond, List, [], ◌∷◌, ◌++◌, ◌==◌, ◌≢◌}
+use Rattle.std.specs.List.{AllByRecursion, slice_split, join_with_byte}
 use Rattle.std.specs.Str.{bytes_eq}
 
 -- bytes, in order
@@ -11,30 +11,17 @@ Text = List ℕ
 abbrev pub Free : ℕ → Text → Type 0
 Free b t = AllByRecursion (λ c. c ≢ b) t
 
--- every byte passes the test
-abbrev pub every : (ℕ → Bool) → Text → Bool
-every f [] = true
-every f (c ∷ cs) = f c && every f cs
-
 abbrev pub blank : Text → Bool
 blank [] = true
 blank (c ∷ cs) = false
 
--- the byte c in front of the first piece
-abbrev pub onto : ℕ → List Text → List Text
-onto c [] = (c ∷ []) ∷ []
-onto c (p ∷ ps) = (c ∷ p) ∷ ps
-
 -- the pieces between the bytes b: one more than there are such bytes
 abbrev pub split : ℕ → Text → List Text
-split b [] = [] ∷ []
-split b (c ∷ cs) = cond (c == b) ([] ∷ split b cs) (onto c (split b cs))
+split b t = slice_split (λ c. c == b) t
 
 -- pieces with a byte b between each and the next
 abbrev pub join : ℕ → List Text → Text
-join b [] = []
-join b (p ∷ []) = p
-join b (p ∷ q ∷ ps) = p ++ (b ∷ join b (q ∷ ps))
+join b ps = join_with_byte b ps
 
 -- lines, each with its ending, byte 10
 abbrev pub ended : List Text → Text

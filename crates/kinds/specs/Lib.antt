@@ -5,5 +5,4 @@ pub mod TextLines
 pub mod Fingerprints
 pub mod Pairing
 pub mod PrintLaws
-pub mod EveryByte
 pub mod LineLaws

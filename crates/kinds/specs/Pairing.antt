@@ -1,5 +1,5 @@
 -- Texts of two numbers with a mark between them: lawful just where two numbers write them.
-use Rattle.std.specs.Prelude.{◌≡◌, ℕ, ◌+◌, ◌^◌, ◌<◌, ◌≤◌, Bool, true, false, ◌&&◌, List, [], ◌∷◌, ◌++◌, length, Some, None, codes, decimal, ◌≢◌, slice_index_or, refl}
+use Rattle.std.specs.Prelude.{◌≡◌, ℕ, ◌+◌, ◌^◌, ◌<◌, ◌≤◌, Bool, true, false, ◌&&◌, Decides, List, [], ◌∷◌, ◌++◌, length, Some, None, codes, decimal, ◌≢◌, slice_index_or, nat_le, refl}
 use Rattle.std.specs.declared.cmp.Ordering.{Ordering}
 use Rattle.std.proofs.Common.{sym, ap, ap₂, subst, ◌∙◌, arith, length-append}
 use Rattle.std.specs.Ordering.{ordering_then, nat_cmp}
@@ -7,51 +7,26 @@ use Rattle.std.specs.Str.Parse.{digits_value}
 use Rattle.std.specs.Int.{IsInRange}
 use Rattle.std.proofs.lemmas.Fmt.{length-decimal-le}
 use Rattle.std.proofs.ByRecursion.{All-append}
-use Rattle.std.proofs.lemmas.Bool.{and_parts, and_from, and_left, and_right, cond_both}
+use Rattle.std.proofs.lemmas.Bool.{and_parts, and_from, and_right, cond-true, false_from_ne_true, both_ways, le-leb, ltb-true}
 use Rattle.graggle.specs.Texts.{Text, Free, split, join, two}
 use Rattle.graggle.specs.Numbers.{numeral, number}
 use Rattle.graggle.specs.Kinds.{Contents, Identifiers, Longest}
 use Rattle.graggle.specs.Orders.{Total}
 use Rattle.graggle.proofs.Splitting.{join_split, split_off, split_whole, two_rest}
-use Rattle.graggle.proofs.Numerals.{decimal_free, told_value, numeral_written, numeral_told, numeral_none, number_from}
+use Rattle.graggle.proofs.Numerals.{decimal_free, told_value, numeral_written, numeral_told, number_from}
 use Rattle.graggle.proofs.Ordered.{numbers_total, parts_total}
+use Rattle.kinds.specs.declared.branch.BranchNumber.{BranchNumber}
+use Rattle.kinds.specs.declared.pairs.PairForm.{PairForm}
 use Rattle.kinds.specs.Pairs.{two_pass, pair_text, number_at}
-use Rattle.kinds.specs.BranchNumbers.{lawful_branch, branch_order}
-use Rattle.kinds.specs.StockRows.{lawful_row}
-
--- the mark, the first number from low to high, and the second from least to most
-pub record Form : Type 0 where
-  pub mark : ℕ
-  pub low : ℕ
-  pub high : ℕ
-  pub least : ℕ
-  pub most : ℕ
-  pub no_digit : IsInRange 48 57 mark → ⊥
-  pub high_fits : high < 2 ^ 64
-  pub most_fits : most < 2 ^ 64
-
--- the marks are no digits, and the greatest numbers fit in 64 bits
-pub dot_no_digit : IsInRange 48 57 46 → ⊥
-dot_no_digit d = omega arith
-
-pub comma_no_digit : IsInRange 48 57 44 → ⊥
-comma_no_digit d = omega arith
-
-pub fits_999 : 999 < 2 ^ 64
-fits_999 = omega arith
-
-pub fits_65535 : 65535 < 2 ^ 64
-fits_65535 = omega arith
-
-pub fits_999999 : 999999 < 2 ^ 64
-fits_999999 = omega arith
+use Rattle.kinds.specs.BranchNumbers.{lawful_branch, branch_order, IsBranchNumber}
+use Rattle.kinds.specs.StockRows.{lawful_row, IsStockRow}
 
 -- branch numbers, and stock rows
-abbrev pub branch_form : Form
-branch_form = record { mark = 46; low = 1; high = 999; least = 1; most = 65535; no_digit = dot_no_digit; high_fits = fits_999; most_fits = fits_65535 }
+abbrev pub branch_form : PairForm
+branch_form = record { mark = 46; low = 1; high = 999; least = 1; most = 65535; no_digit = λ d. both_ways (nat_le 48 46) refl (le-leb 48 46 d.0); high_fits = ltb-true 999 (2 ^ 64) refl; most_fits = ltb-true 65535 (2 ^ 64) refl }
 
-abbrev pub row_form : Form
-row_form = record { mark = 44; low = 1; high = 999999; least = 0; most = 999; no_digit = comma_no_digit; high_fits = fits_999999; most_fits = fits_999 }
+abbrev pub row_form : PairForm
+row_form = record { mark = 44; low = 1; high = 999999; least = 0; most = 999; no_digit = λ d. both_ways (nat_le 48 44) refl (le-leb 48 44 d.0); high_fits = ltb-true 999999 (2 ^ 64) refl; most_fits = ltb-true 999 (2 ^ 64) refl }
 
 -- numbers of at most d and e digits
 pub pair_length : (d e mark a b : ℕ) → 0 < d → 0 < e → a < 10 ^ d → b < 10 ^ e → a < 2 ^ 64 → b < 2 ^ 64 → length (pair_text mark a b) ≤ d + 1 + e
@@ -61,11 +36,10 @@ pair_length d e mark a b p q h k small short =
     omega (arith, length-append (decimal a) (mark ∷ decimal b))
 
 number_none : (low high : ℕ) (t : Text) → number low high t ≡ None → numeral low high t ≡ false
-number_none low high t = cond_both (numeral low high t) (Some (digits_value 10 t)) None (λ o. o ≡ None → numeral low high t ≡ false)
-    (λ e n. let z : ◌≡◌ {A = ℕ} 0 1 = cc in absurd (omega arith))
-    (λ e n. e)
+number_none low high t n =
+    false_from_ne_true (numeral low high t) (λ e. let s = cond-true (numeral low high t) (Some (digits_value 10 t)) None e in cc)
 
-module _ (f : Form) where
+module _ (f : PairForm) where
   abbrev pub lawful : Text → Bool
   lawful t = two_pass f.mark (numeral f.low f.high) (numeral f.least f.most) t
 
@@ -93,11 +67,11 @@ module _ (f : Form) where
       split_off f.mark (decimal a) (decimal b) (decimal_free f.mark a (omega arith) f.no_digit)
       ∙ ap (λ ps. decimal a ∷ ps) (split_whole f.mark (decimal b) (decimal_free f.mark b (omega arith) f.no_digit))
 
-  pub first_number : (a b : ℕ) → Range a b → first (text a b) ≡ a
-  first_number a b r = ap (λ ps. digits_value 10 (slice_index_or ps 0 [])) (pair_split a b r) ∙ told_value a (omega arith)
-
-  pub second_number : (a b : ℕ) → Range a b → second (text a b) ≡ b
-  second_number a b r = ap (λ ps. digits_value 10 (slice_index_or ps 1 [])) (pair_split a b r) ∙ told_value b (omega arith)
+  pair_numbers : (a b : ℕ) → Range a b → (first (text a b) ≡ a) × (second (text a b) ≡ b)
+  pair_numbers a b r = (
+    ap (λ ps. digits_value 10 (slice_index_or ps 0 [])) (pair_split a b r) ∙ told_value a (omega arith),
+    ap (λ ps. digits_value 10 (slice_index_or ps 1 [])) (pair_split a b r) ∙ told_value b (omega arith),
+  )
 
   pub pair_lawful : (a b : ℕ) → Range a b → lawful (text a b) ≡ true
   pair_lawful a b r =
@@ -117,12 +91,7 @@ module _ (f : Form) where
       let m : digits_value 10 p ≡ first t = sym (ap (λ ps. digits_value 10 (slice_index_or ps 0 [])) e) in
       let n : digits_value 10 q ≡ second t = sym (ap (λ ps. digits_value 10 (slice_index_or ps 1 [])) e) in
       record {
-        range = record {
-          first_least = omega (arith, u.least, m);
-          first_most = omega (arith, u.most, m);
-          second_least = omega (arith, v.least, n);
-          second_most = omega (arith, v.most, n);
-        };
+        range = omega arith;
         writes = sym (join_split f.mark t) ∙ ap (join f.mark) e ∙ ap₂ (λ x y. x ++ (f.mark ∷ y)) (u.text ∙ ap decimal m) (v.text ∙ ap decimal n);
       }
 
@@ -130,10 +99,10 @@ module _ (f : Form) where
   pair_told t = go (split f.mark t) refl
     where
       go : (ps : List Text) → split f.mark t ≡ ps → two false both ps ≡ true → Told t
-      go [] e l = let z : ◌≡◌ {A = ℕ} 0 1 = cc in absurd (omega arith)
-      go (p ∷ []) e l = let z : ◌≡◌ {A = ℕ} 0 1 = cc in absurd (omega arith)
+      go [] e l = cc
+      go (p ∷ []) e l = cc
       go (p ∷ q ∷ []) e l = told t p q e l
-      go (p ∷ q ∷ r ∷ ps) e l = let z : ◌≡◌ {A = ℕ} 0 1 = cc in absurd (omega arith)
+      go (p ∷ q ∷ r ∷ ps) e l = cc
 
   pub pair_some : (t : Text) → lawful t ≡ true → 1 ≤ length t
   pair_some t l = omega (arith, ap length (pair_told t l).writes, length-append (decimal (first t)) (f.mark ∷ decimal (second t)))
@@ -141,8 +110,8 @@ module _ (f : Form) where
   pub pair_free : (b : ℕ) → (IsInRange 48 57 b → ⊥) → (f.mark ≢ b) → (t : Text) → lawful t ≡ true → Free b t
   pair_free b digit other t l =
       let k = pair_told t l in
-      let m = decimal_free b (first t) (omega (arith, k.range.first_most)) digit in
-      let n = decimal_free b (second t) (omega (arith, k.range.second_most)) digit in
+      let m = decimal_free b (first t) (omega arith) digit in
+      let n = decimal_free b (second t) (omega arith) digit in
       subst (Free b) (sym k.writes) (All-append (λ c. c ≢ b) (decimal (first t)) (f.mark ∷ decimal (second t)) m (other, n))
 
   -- d and e digits suffice, and a text has as many
@@ -150,8 +119,6 @@ module _ (f : Form) where
   pair_longest d e p q h k long l n = record {
     within = λ t w.
         let x = pair_told t w in
-        let m = x.range.first_most in
-        let s = x.range.second_most in
         let y = pair_length d e f.mark (first t) (second t) p q (omega arith) (omega arith) (omega arith) (omega arith) in
         omega (arith, y, ap length x.writes);
     least = λ m bound. omega (arith, bound long l);
@@ -162,7 +129,8 @@ module _ (f : Form) where
   order s t = ordering_then (nat_cmp (first s) (first t)) (nat_cmp (second s) (second t))
 
   pub pair_ranks : (a b c d : ℕ) → Range a b → Range c d → order (text a b) (text c d) ≡ ordering_then (nat_cmp a c) (nat_cmp b d)
-  pair_ranks a b c d r s i = ordering_then (nat_cmp (first_number a b r i) (first_number c d s i)) (nat_cmp (second_number a b r i) (second_number c d s i))
+  pair_ranks a b c d r s i =
+      let m = pair_numbers a b r in let n = pair_numbers c d s in ordering_then (nat_cmp (m.0 i) (n.0 i)) (nat_cmp (m.1 i) (n.1 i))
 
   pub pair_total : Total (λ t. lawful t ≡ true) order
   pair_total =
@@ -171,23 +139,17 @@ module _ (f : Form) where
 
   -- a text with its first piece split off
   module _ (t p rest : Text) (e : split f.mark t ≡ p ∷ split f.mark rest) where
-    pair_rest : lawful t ≡ both p rest
-    pair_rest =
-        ap (two false both) e
-        ∙ two_rest false both f.mark p rest (λ h. and_right (numeral f.low f.high p) (numeral f.least f.most rest) (numeral_none f.least f.most f.most_fits f.mark f.no_digit rest h))
-
-    pub no_first : number f.low f.high p ≡ None → lawful t ≡ false
-    no_first h = pair_rest ∙ and_left (numeral f.low f.high p) (numeral f.least f.most rest) (number_none f.low f.high p h)
-
     pub no_second : number f.least f.most rest ≡ None → lawful t ≡ false
-    no_second h = pair_rest ∙ and_right (numeral f.low f.high p) (numeral f.least f.most rest) (number_none f.least f.most rest h)
+    no_second h =
+        let none = and_right (numeral f.low f.high p) (numeral f.least f.most rest) (number_none f.least f.most rest h) in
+        ap (two false both) e ∙ two_rest false both f.mark p rest (λ _. none) ∙ none
 
     pub pair_read : (a b : ℕ) → number f.low f.high p ≡ Some a → number f.least f.most rest ≡ Some b → Range a b × (text a b ≡ t)
     pair_read a b h k =
         let x = number_from f.low f.high f.high_fits p a h in
         let y = number_from f.least f.most f.most_fits rest b k in
-        let whole : split f.mark rest ≡ decimal b ∷ [] = ap (split f.mark) y.0 ∙ split_whole f.mark (decimal b) (decimal_free f.mark b (omega (arith, y.2)) f.no_digit) in (
-          record { first_least = x.1; first_most = x.2; second_least = y.1; second_most = y.2 },
+        let whole : split f.mark rest ≡ decimal b ∷ [] = ap (split f.mark) y.0 ∙ split_whole f.mark (decimal b) (decimal_free f.mark b (omega arith) f.no_digit) in (
+          omega arith,
           sym (sym (join_split f.mark t) ∙ ap (join f.mark) e ∙ ap₂ (λ q qs. join f.mark (q ∷ qs)) x.0 whole),
         )
 
@@ -216,7 +178,24 @@ rows_kind = record {
 }
 
 pub branch_own : (branch serial : ℕ) → 1 ≤ branch → branch ≤ 999 → 1 ≤ serial → serial ≤ 65535 → lawful_branch (pair_text 46 branch serial) ≡ true
-branch_own branch serial low high least most = pair_lawful branch_form branch serial (record { first_least = low; first_most = high; second_least = least; second_most = most })
+branch_own branch serial low high least most = pair_lawful branch_form branch serial (omega arith)
 
 pub row_own : (item copies : ℕ) → 1 ≤ item → item ≤ 999999 → copies ≤ 999 → lawful_row (pair_text 44 item copies) ≡ true
-row_own item copies low high most = pair_lawful row_form item copies (record { first_least = low; first_most = high; second_least = omega arith; second_most = most })
+row_own item copies low high most = pair_lawful row_form item copies (omega arith)
+
+-- a text is lawful just where two numbers write it
+pub branch_decides : (t : Text) → Decides (lawful_branch t) (IsBranchNumber t)
+branch_decides t = (
+  λ l. let k = pair_told branch_form t l in record { branch = number_at 46 0 t; serial = number_at 46 1 t; range = omega arith; text = k.writes },
+  λ n. let r = n.range in ap lawful_branch n.text ∙ pair_lawful branch_form n.branch n.serial (omega arith),
+)
+
+pub row_decides : (t : Text) → Decides (lawful_row t) (IsStockRow t)
+row_decides t = (
+  λ l. let k = pair_told row_form t l in record { item = number_at 44 0 t; copies = number_at 44 1 t; range = omega arith; text = k.writes },
+  λ n. let r = n.range in ap lawful_row n.text ∙ pair_lawful row_form n.item n.copies (omega arith),
+)
+
+-- branch numbers stand as their texts do
+pub branches_ordered : (x y : BranchNumber) → ordering_then (nat_cmp x.branch y.branch) (nat_cmp x.serial y.serial) ≡ branch_order (pair_text 46 x.branch x.serial) (pair_text 46 y.branch y.serial)
+branches_ordered x y = sym (pair_ranks branch_form x.branch x.serial y.branch y.serial (omega arith) (omega arith))

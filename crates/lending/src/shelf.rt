@@ -1,7 +1,7 @@
 ghost use Rattle.std.specs.Prelude.{[], ◌≡◌};
 ghost use Rattle.flat.specs.Items.{items, room};
 
-use crate::memory::{LoanLine, LoanLink, LoanStrike, any_line, any_link, any_strike};
+use crate::memory::{LoanLine, LoanLink, LoanStrike};
 use flat::flat_store::FlatStore;
 use kinds::branch::BranchNumber;
 use kinds::text_line::TextLine;
@@ -19,11 +19,12 @@ pub struct Shelf {
 }
 
 impl Shelf {
+    // Which records fill the memory does not matter: a store over any memory begins empty.
     pub fn new() -> Shelf {
         Shelf {
-            lines: [any_line(); MOST_LINES],
-            links: [any_link(); MOST_LINKS],
-            strikes: [any_strike(); MOST_STRIKES],
+            lines: [LoanLine::default(); MOST_LINES],
+            links: [LoanLink::default(); MOST_LINKS],
+            strikes: [LoanStrike::default(); MOST_STRIKES],
         }
     }
 

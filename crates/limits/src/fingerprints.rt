@@ -1,16 +1,13 @@
 // Fingerprints: 32 hexadecimal digits, `0` to `9` and `a` to `f`.
-use crate::order::{Ordered, compare_all};
+use crate::order::compare_all;
 use crate::report::Report;
 use crate::rows::Row::{Lawful, Unlawful};
-use crate::rows::{Kind, Row};
+use crate::rows::TextRow;
 use kinds::fingerprint::Fingerprint;
-use kinds::fingerprints::is_fingerprint;
-use kinds::identifier::Identifier;
-use std::cmp::Ordering;
+use kinds::written::Written;
 use std::io;
-use texts::text::ShortText;
 
-const LENGTHS: [Row; 10] = [
+const LENGTHS: [TextRow; 10] = [
     Lawful(b"00000000000000000000000000000000"),
     Lawful(b"ffffffffffffffffffffffffffffffff"),
     Lawful(b"0123456789abcdef0123456789abcdef"),
@@ -24,7 +21,7 @@ const LENGTHS: [Row; 10] = [
 ];
 
 // The bytes before and after the digits and the letters, each at the first, a middle and the last place.
-const EDGES: [Row; 24] = [
+const EDGES: [TextRow; 24] = [
     Unlawful(b"/123456789abcdef0123456789abcdef"),
     Unlawful(b"0123456789abcdef/123456789abcdef"),
     Unlawful(b"0123456789abcdef0123456789abcde/"),
@@ -62,35 +59,12 @@ const ASCENDING: [&[u8]; 8] = [
     b"ffffffffffffffffffffffffffffffff",
 ];
 
-impl Kind for Fingerprint {
-    fn tells(text: &[u8]) -> bool {
-        is_fingerprint(text)
-    }
-
-    fn rewrites(text: &[u8]) -> Option<ShortText> {
-        Some(Fingerprint::read(text)?.write())
-    }
-}
-
-impl Ordered for Fingerprint {
-    fn compare_texts(one: &[u8], other: &[u8]) -> Option<Ordering> {
-        let one = Fingerprint::read(one)?;
-        let other = Fingerprint::read(other)?;
-        Some(one.compare(&other))
-    }
-}
-
 pub(crate) fn tables(report: &Report) -> io::Result<()> {
     report.title("Fingerprints: lengths")?;
-    report.rows::<Fingerprint>(&LENGTHS)?;
-    report.count("Fingerprint::LONGEST", Fingerprint::LONGEST, 32)?;
-    report.count(
-        "Fingerprint::longest_text()",
-        Fingerprint::longest_text(),
-        32,
-    )?;
+    report.kind::<Fingerprint>(&LENGTHS)?;
+    report.longest::<Fingerprint>("Fingerprint", 32)?;
     report.title("Fingerprints: digits")?;
-    report.rows::<Fingerprint>(&EDGES)?;
+    report.kind::<Fingerprint>(&EDGES)?;
     report.title("Fingerprints: order")?;
-    compare_all::<Fingerprint>(report, &ASCENDING)
+    compare_all(report, &ASCENDING, Fingerprint::read, Fingerprint::cmp)
 }

@@ -1,14 +1,12 @@
 // Text lines: 0 to 60 bytes from 32 to 126, none of them 59.
-use crate::report::Report;
+use crate::report::{Report, word_of};
 use crate::rows::Row::{Lawful, Unlawful};
-use crate::rows::{Kind, Row};
-use kinds::content::Content;
+use crate::rows::{Row, TextRow};
 use kinds::text_line::TextLine;
-use kinds::text_lines::is_text_line;
+use kinds::written::Written;
 use std::io;
-use texts::text::ShortText;
 
-const LENGTHS: [Row; 10] = [
+const LENGTHS: [TextRow; 10] = [
     Lawful(b""),
     Lawful(b"x"),
     Lawful(b" "),
@@ -22,7 +20,7 @@ const LENGTHS: [Row; 10] = [
 ];
 
 // An unlawful byte at the first, a middle and the last place.
-const PLACES: [Row; 16] = [
+const PLACES: [TextRow; 16] = [
     Unlawful(b";Two weeks"),
     Unlawful(b"Two;weeks"),
     Unlawful(b"Two weeks;"),
@@ -41,94 +39,48 @@ const PLACES: [Row; 16] = [
     Unlawful(b"12345678901234567890123456789012345678901234567890123456789;"),
 ];
 
-// Texts of one byte, from the first byte to the last: all lawful, or none.
-#[derive(Clone, Copy)]
-struct Span {
-    first: u8,
-    last: u8,
-    lawful: bool,
-}
-
-const SPANS: [Span; 5] = [
-    Span {
-        first: 0,
-        last: 31,
-        lawful: false,
-    },
-    Span {
-        first: 32,
-        last: 58,
-        lawful: true,
-    },
-    Span {
-        first: 59,
-        last: 59,
-        lawful: false,
-    },
-    Span {
-        first: 60,
-        last: 126,
-        lawful: true,
-    },
-    Span {
-        first: 127,
-        last: 255,
-        lawful: false,
-    },
+// Texts of one byte, from the first byte to the last.
+const SPANS: [Row<(u8, u8)>; 5] = [
+    Unlawful((0, 31)),
+    Lawful((32, 58)),
+    Unlawful((59, 59)),
+    Lawful((60, 126)),
+    Unlawful((127, 255)),
 ];
 
-impl Kind for TextLine {
-    fn tells(text: &[u8]) -> bool {
-        is_text_line(text)
-    }
-
-    fn rewrites(text: &[u8]) -> Option<ShortText> {
-        Some(TextLine::read(text)?.write())
-    }
-}
-
 // Each byte of the span, as a text of its own.
-fn try_span(report: &Report, span: &Span) -> io::Result<()> {
-    for byte in span.first..=span.last {
-        let text = [byte];
-        let row = if span.lawful {
-            Lawful(&text)
-        } else {
-            Unlawful(&text)
-        };
-        report.hold::<TextLine>(&row)?;
+fn try_span(report: &Report, span: &Row<(u8, u8)>) -> io::Result<()> {
+    let word = word_of(span.is_lawful());
+    let (first, last) = span.value();
+    println!(report.rt; "  {word:<8}  bytes {first:>3} to {last:>3}")?;
+    for byte in first..=last {
+        let text: &[u8] = &[byte];
+        let written = TextLine::read(text).map(|line| line.write());
+        let written = written.as_ref().map(|written| written.as_slice());
+        report.hold(&span.with(text), TextLine::is_lawful(text), written)?;
     }
     Ok(())
 }
 
-fn lawful_bytes() -> usize {
-    let mut count: usize = 0;
-    for byte in 0..=255 {
-        if is_text_line(&[byte]) {
-            count = count.saturating_add(1);
-        }
-    }
-    count
-}
-
 fn try_spans(report: &Report) -> io::Result<()> {
     for span in &SPANS {
-        let word = if span.lawful { "lawful" } else { "unlawful" };
-        let first = span.first;
-        let last = span.last;
-        println!(report.rt; "  {word:<8}  bytes {first:>3} to {last:>3}")?;
         try_span(report, span)?;
     }
     Ok(())
 }
 
+fn lawful_bytes() -> usize {
+    (0..=255)
+        .filter(|byte| TextLine::is_lawful(&[*byte]))
+        .count()
+}
+
 pub(crate) fn tables(report: &Report) -> io::Result<()> {
     report.title("Text lines: lengths")?;
-    report.rows::<TextLine>(&LENGTHS)?;
-    report.count("TextLine::LONGEST", TextLine::LONGEST, 60)?;
-    report.count("TextLine::longest_text()", TextLine::longest_text(), 60)?;
+    report.kind::<TextLine>(&LENGTHS)?;
+    report.longest::<TextLine>("TextLine", 60)?;
     report.title("Text lines: places of an unlawful byte")?;
-    report.rows::<TextLine>(&PLACES)?;
+    report.kind::<TextLine>(&PLACES)?;
     report.title("Text lines: each byte alone")?;
     try_spans(report)?;
     report.count("bytes that are lawful alone", lawful_bytes(), 94)

@@ -1,17 +1,20 @@
 // Line names: an identifier, a colon, an index from 0 to 255.
-use crate::order::{Ordered, compare_all};
+use crate::order::compare_all;
 use crate::report::Report;
 use crate::rows::Row::{Lawful, Unlawful};
-use crate::rows::{Kind, Row};
+use crate::rows::TextRow;
 use kinds::branch::BranchNumber;
 use kinds::fingerprint::Fingerprint;
 use kinds::identifier::Identifier;
 use patch::names::LineName;
-use std::cmp::Ordering;
 use std::io;
 use texts::text::{ShortText, Text};
 
-const BY_BRANCHES: [Row; 34] = [
+type ByBranch = LineName<BranchNumber>;
+
+type ByFingerprint = LineName<Fingerprint>;
+
+const BY_BRANCHES: [TextRow; 34] = [
     Lawful(b"3.7:0"),
     Lawful(b"3.7:9"),
     Lawful(b"3.7:10"),
@@ -49,7 +52,7 @@ const BY_BRANCHES: [Row; 34] = [
     Unlawful(b"00c0ffee00c0ffee00c0ffee00c0ffee:0"),
 ];
 
-const BY_FINGERPRINTS: [Row; 13] = [
+const BY_FINGERPRINTS: [TextRow; 13] = [
     Lawful(b"00c0ffee00c0ffee00c0ffee00c0ffee:0"),
     Lawful(b"00c0ffee00c0ffee00c0ffee00c0ffee:255"),
     Lawful(b"ffffffffffffffffffffffffffffffff:255"),
@@ -85,36 +88,43 @@ const ASCENDING_BY_FINGERPRINTS: [&[u8]; 5] = [
     b"ffffffffffffffffffffffffffffffff:0",
 ];
 
-impl<I: Identifier> Kind for LineName<I> {
-    // No function only tells whether a text is a name, so `read` is asked in its place.
-    fn tells(text: &[u8]) -> bool {
-        LineName::<I>::read(text).is_some()
-    }
-
-    // A name has at most 36 bytes, so all of it is copied.
-    fn rewrites(text: &[u8]) -> Option<ShortText> {
-        let name = LineName::<I>::read(text)?;
-        let mut copy = Text::new();
-        copy.append(name.write().as_slice());
-        Some(copy)
-    }
+// No function only tells whether a text is a name, so `read` is asked in its place.
+fn is_name<I: Identifier>(text: &[u8]) -> bool {
+    LineName::<I>::read(text).is_some()
 }
 
-impl<I: Identifier> Ordered for LineName<I> {
-    fn compare_texts(one: &[u8], other: &[u8]) -> Option<Ordering> {
-        let one = LineName::<I>::read(one)?;
-        let other = LineName::<I>::read(other)?;
-        Some(one.compare(&other))
-    }
+// A name has at most 36 bytes, so all of it is copied.
+fn write_name<I: Identifier>(name: &LineName<I>) -> ShortText {
+    Text::from_slice(name.write().as_slice())
 }
 
 pub(crate) fn tables(report: &Report) -> io::Result<()> {
     report.title("Line names: branch numbers as identifiers")?;
-    report.rows::<LineName<BranchNumber>>(&BY_BRANCHES)?;
+    report.rows(
+        &BY_BRANCHES,
+        is_name::<BranchNumber>,
+        ByBranch::read,
+        write_name,
+    )?;
     report.title("Line names: fingerprints as identifiers")?;
-    report.rows::<LineName<Fingerprint>>(&BY_FINGERPRINTS)?;
+    report.rows(
+        &BY_FINGERPRINTS,
+        is_name::<Fingerprint>,
+        ByFingerprint::read,
+        write_name,
+    )?;
     report.title("Line names: order by branch number and index")?;
-    compare_all::<LineName<BranchNumber>>(report, &ASCENDING_BY_BRANCHES)?;
+    compare_all(
+        report,
+        &ASCENDING_BY_BRANCHES,
+        ByBranch::read,
+        ByBranch::compare,
+    )?;
     report.title("Line names: order by fingerprint and index")?;
-    compare_all::<LineName<Fingerprint>>(report, &ASCENDING_BY_FINGERPRINTS)
+    compare_all(
+        report,
+        &ASCENDING_BY_FINGERPRINTS,
+        ByFingerprint::read,
+        ByFingerprint::compare,
+    )
 }

@@ -1,95 +1,74 @@
 // Decimal numbers from a least to a most, without a leading zero.
 use crate::report::Report;
 use crate::rows::Quoted;
-use Reading::{Nothing, Number};
 use std::io;
 use texts::numbers::read_number_from;
 
-// A text, and the number that it is.
-#[derive(Clone, Copy)]
-enum Reading {
-    Number(&'static [u8], u32),
-    Nothing(&'static [u8]),
-}
+// A text, and the number that it is, if any.
+type Reading = (&'static [u8], Option<u32>);
 
 const FROM_0_TO_255: [Reading; 18] = [
-    Number(b"0", 0),
-    Number(b"1", 1),
-    Number(b"9", 9),
-    Number(b"10", 10),
-    Number(b"254", 254),
-    Number(b"255", 255),
-    Nothing(b"256"),
-    Nothing(b"2550"),
-    Nothing(b"00"),
-    Nothing(b"07"),
-    Nothing(b""),
-    Nothing(b" 7"),
-    Nothing(b"7 "),
-    Nothing(b"+7"),
-    Nothing(b"-0"),
-    Nothing(b"7/"),
-    Nothing(b":7"),
-    Nothing(b"7\xd9\xa1"),
+    (b"0", Some(0)),
+    (b"1", Some(1)),
+    (b"9", Some(9)),
+    (b"10", Some(10)),
+    (b"254", Some(254)),
+    (b"255", Some(255)),
+    (b"256", None),
+    (b"2550", None),
+    (b"00", None),
+    (b"07", None),
+    (b"", None),
+    (b" 7", None),
+    (b"7 ", None),
+    (b"+7", None),
+    (b"-0", None),
+    (b"7/", None),
+    (b":7", None),
+    (b"7\xd9\xa1", None),
 ];
 
 const FROM_10_TO_99: [Reading; 6] = [
-    Nothing(b"0"),
-    Nothing(b"9"),
-    Number(b"10", 10),
-    Number(b"99", 99),
-    Nothing(b"100"),
-    Nothing(b"010"),
+    (b"0", None),
+    (b"9", None),
+    (b"10", Some(10)),
+    (b"99", Some(99)),
+    (b"100", None),
+    (b"010", None),
 ];
 
-const FROM_0_TO_0: [Reading; 4] = [Number(b"0", 0), Nothing(b"1"), Nothing(b"00"), Nothing(b"")];
+const FROM_0_TO_0: [Reading; 4] = [(b"0", Some(0)), (b"1", None), (b"00", None), (b"", None)];
 
 // The last four are 2 to the 32nd and to the 64th, and the number after each: 0 and 1 if they wrapped.
 const FROM_0_TO_THE_GREATEST: [Reading; 7] = [
-    Number(b"0", 0),
-    Number(b"4294967294", 4_294_967_294),
-    Number(b"4294967295", 4_294_967_295),
-    Nothing(b"4294967296"),
-    Nothing(b"4294967297"),
-    Nothing(b"18446744073709551616"),
-    Nothing(b"18446744073709551617"),
+    (b"0", Some(0)),
+    (b"4294967294", Some(4_294_967_294)),
+    (b"4294967295", Some(4_294_967_295)),
+    (b"4294967296", None),
+    (b"4294967297", None),
+    (b"18446744073709551616", None),
+    (b"18446744073709551617", None),
 ];
 
 const THE_GREATEST_ALONE: [Reading; 3] = [
-    Nothing(b"4294967294"),
-    Number(b"4294967295", 4_294_967_295),
-    Nothing(b"4294967296"),
+    (b"4294967294", None),
+    (b"4294967295", Some(4_294_967_295)),
+    (b"4294967296", None),
 ];
 
 // A least above the most leaves no number.
-const FROM_7_TO_3: [Reading; 4] = [Nothing(b"2"), Nothing(b"3"), Nothing(b"5"), Nothing(b"7")];
-
-impl Reading {
-    fn text(&self) -> &'static [u8] {
-        match self {
-            Number(text, _) => text,
-            Nothing(text) => text,
-        }
-    }
-
-    fn expected(&self) -> Option<u32> {
-        match self {
-            Number(_, number) => Some(*number),
-            Nothing(_) => None,
-        }
-    }
-}
+const FROM_7_TO_3: [Reading; 4] = [(b"2", None), (b"3", None), (b"5", None), (b"7", None)];
 
 fn try_readings(report: &Report, least: u32, most: u32, readings: &[Reading]) -> io::Result<()> {
     println!(report.rt; "Numbers from {least} to {most}")?;
-    for reading in readings {
-        let text = Quoted(reading.text());
-        let found = read_number_from(reading.text(), least, most);
+    for (text, expected) in readings {
+        let quoted = Quoted(text);
+        let found = read_number_from(text, least, most);
         match found {
-            Some(number) => println!(report.rt; "  {text} is {number}")?,
-            None => println!(report.rt; "  {text} is none")?,
+            Some(number) => println!(report.rt; "  {quoted} is {number}")?,
+            None => println!(report.rt; "  {quoted} is none")?,
         }
-        report.expect("read_number_from", found == reading.expected())?;
+        report.expect("read_number_from", found == *expected)?;
     }
     Ok(())
 }

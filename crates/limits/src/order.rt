@@ -4,11 +4,6 @@ use crate::rows::Quoted;
 use std::cmp::Ordering;
 use std::io;
 
-pub trait Ordered {
-    // How the values of two texts compare; nothing where a text is unlawful.
-    fn compare_texts(one: &[u8], other: &[u8]) -> Option<Ordering>;
-}
-
 fn sign(order: Option<Ordering>) -> &'static str {
     match order {
         Some(Ordering::Less) => "<",
@@ -19,26 +14,44 @@ fn sign(order: Option<Ordering>) -> &'static str {
 }
 
 // The text at a place of the table against all: greater than those before it, less than those after it.
-fn compare_one<O: Ordered>(
+fn compare_one<C>(
     report: &Report,
     table: &[&[u8]],
     at: usize,
     text: &[u8],
-) -> io::Result<()> {
+    compare: &C,
+) -> io::Result<()>
+where
+    C: Fn(&[u8], &[u8]) -> Option<Ordering>,
+    requires { C.IsAlwaysCallable compare.now }
+{
     let mut holds = true;
     print!(report.rt; " ")?;
     for (place, other) in table.iter().enumerate() {
-        let order = O::compare_texts(text, other);
+        let order = compare(text, other);
         print!(report.rt; " {}", sign(order))?;
-        holds = holds && order == Some(at.cmp(&place));
+        holds &= order == Some(at.cmp(&place));
     }
     println!(report.rt; "  {}", Quoted(text))?;
     report.expect("compare", holds)
 }
 
-pub(crate) fn compare_all<O: Ordered>(report: &Report, table: &[&[u8]]) -> io::Result<()> {
+// The order of the values that the texts have; a text that is unlawful has none.
+pub(crate) fn compare_all<V: Drop, R, C>(
+    report: &Report,
+    table: &[&[u8]],
+    read: R,
+    compare: C,
+) -> io::Result<()>
+where
+    R: Fn(&[u8]) -> Option<V>,
+    C: Fn(&V, &V) -> Ordering,
+    requires read { R.IsAlwaysCallable read }
+    requires compare { C.IsAlwaysCallable compare }
+{
+    let compare_texts = |one: &[u8], other: &[u8]| Some(compare(&read(one)?, &read(other)?));
     for (at, text) in table.iter().enumerate() {
-        compare_one::<O>(report, table, at, text)?;
+        compare_one(report, table, at, text, &compare_texts)?;
     }
     Ok(())
 }

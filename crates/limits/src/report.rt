@@ -1,12 +1,19 @@
 // One line for each row, and one more where an answer is not the expected one.
-use crate::rows::{Kind, Pair, Quoted, Row};
+use crate::rows::{Pair, Quoted, TextRow};
+use kinds::written::Written;
 use std::cell::Cell;
 use std::io;
+use texts::text::ShortText;
 
 #[derive(Drop)]
 pub struct Report<'r> {
     pub rt: &'r HostRuntime,
     differing: Cell<u32>,
+}
+
+// How the report calls texts that are lawful, and those that are not.
+pub(crate) fn word_of(is_lawful: bool) -> &'static str {
+    if is_lawful { "lawful" } else { "unlawful" }
 }
 
 impl<'r> Report<'r> {
@@ -38,56 +45,90 @@ impl<'r> Report<'r> {
         self.expect(call, holds)
     }
 
-    // Every call of the kind has to answer as the row says.
-    pub(crate) fn hold<K: Kind>(&self, row: &Row) -> io::Result<()> {
-        let text = row.text();
-        let lawful = row.is_lawful();
-        let rewritten = K::rewrites(text);
-        self.expect_of("read", text, rewritten.is_some() == lawful)?;
-        self.expect_of("the function that tells", text, K::tells(text) == lawful)?;
-        match rewritten {
-            Some(written) => self.expect_of("write", text, written.as_slice() == text),
+    // `told` is what the function says that only tells whether a text is lawful, and `written` what `write` gives for the
+    // value that `read` gives. Both have to be as the row says.
+    pub(crate) fn hold(&self, row: &TextRow, told: bool, written: Option<&[u8]>) -> io::Result<()> {
+        let text = row.value();
+        let is_lawful = row.is_lawful();
+        self.expect_of("read", text, written.is_some() == is_lawful)?;
+        self.expect_of("the function that tells", text, told == is_lawful)?;
+        match written {
+            Some(written) => self.expect_of("write", text, written == text),
             None => Ok(()),
         }
     }
 
-    // A lawful text is shown as `write` gives it back.
-    fn show<K: Kind>(&self, text: &[u8]) -> io::Result<()> {
+    // A lawful text is shown as `write` gave it back.
+    fn show(&self, text: &[u8], written: Option<&[u8]>) -> io::Result<()> {
+        let word = word_of(written.is_some());
         let len = text.len();
-        match K::rewrites(text) {
-            Some(written) => {
-                let written = Quoted(written.as_slice());
-                println!(self.rt; "  lawful    length {len:>2}  {written}")
-            }
-            None => {
-                let text = Quoted(text);
-                println!(self.rt; "  unlawful  length {len:>2}  {text}")
-            }
-        }
+        let shown = Quoted(written.unwrap_or(text));
+        println!(self.rt; "  {word:<8}  length {len:>2}  {shown}")
     }
 
-    pub(crate) fn rows<K: Kind>(&self, rows: &[Row]) -> io::Result<()> {
+    // Asks the calls of a kind for every row. `tells` only says whether a text is lawful.
+    pub(crate) fn rows<V: Drop, T, R, W>(
+        &self,
+        rows: &[TextRow],
+        tells: T,
+        read: R,
+        write: W,
+    ) -> io::Result<()>
+    where
+        T: Fn(&[u8]) -> bool,
+        R: Fn(&[u8]) -> Option<V>,
+        W: Fn(&V) -> ShortText,
+        requires tells { T.IsAlwaysCallable tells }
+        requires read { R.IsAlwaysCallable read }
+        requires write { W.IsAlwaysCallable write }
+    {
         for row in rows {
-            self.show::<K>(row.text())?;
-            self.hold::<K>(row)?;
+            let text = row.value();
+            let written = read(text).map(|value| write(&value));
+            let written = written.as_ref().map(|written| written.as_slice());
+            self.show(text, written)?;
+            self.hold(row, tells(text), written)?;
         }
         Ok(())
     }
 
-    // What a value holds that is made of two numbers.
-    pub(crate) fn pair(&self, pair: &Pair, held: Option<(u32, u32)>) -> io::Result<()> {
-        let (first, second) = pair.numbers();
-        let word = match held {
-            Some(_) => "made",
-            None => "refused",
-        };
-        println!(self.rt; "  {word:<7}  {first} and {second}")?;
-        self.expect("new", pair.agrees(held))
+    // The same of a kind, which has these calls from its trait.
+    pub(crate) fn kind<K: Written>(&self, rows: &[TextRow]) -> io::Result<()> {
+        self.rows(
+            rows,
+            |text| K::is_lawful(text),
+            |text| K::read(text),
+            |value| value.write(),
+        )
+    }
+
+    // What a value holds that is made of two numbers: these two, if any.
+    pub(crate) fn pairs<H>(&self, pairs: &[Pair], held: H) -> io::Result<()>
+    where
+        H: Fn(u32, u32) -> Option<(u32, u32)>,
+        requires { H.IsAlwaysCallable held }
+    {
+        for pair in pairs {
+            let (first, second) = pair.value();
+            let held = held(first, second);
+            let word = if held.is_some() { "made" } else { "refused" };
+            println!(self.rt; "  {word:<7}  {first} and {second}")?;
+            self.expect("new", held == pair.is_lawful().then_some((first, second)))?;
+        }
+        Ok(())
     }
 
     pub(crate) fn count(&self, what: &str, found: usize, expected: usize) -> io::Result<()> {
         println!(self.rt; "  {what}: {found}")?;
         self.expect(what, found == expected)
+    }
+
+    // The longest lawful text of a kind, as its constant and as its function tell it.
+    pub(crate) fn longest<K: Written>(&self, kind: &str, expected: usize) -> io::Result<()> {
+        println!(self.rt; "  {kind}::LONGEST: {}", K::LONGEST)?;
+        self.expect("LONGEST", K::LONGEST == expected)?;
+        println!(self.rt; "  {kind}::longest_text(): {}", K::longest_text())?;
+        self.expect("longest_text", K::longest_text() == expected)
     }
 
     pub(crate) fn end(&self) -> io::Result<()> {

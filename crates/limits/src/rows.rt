@@ -1,59 +1,35 @@
 // Rows of the tables. What a row expects is written by hand from the rules, and never worked out.
 use std::fmt;
-use texts::text::ShortText;
 
-// A text, and whether it is lawful.
+// A text, a pair of numbers or a span of bytes, and whether it is lawful.
+// Not a `Result`: `Ok` and `Err` in the tables would not say what a row expects.
 #[derive(Clone, Copy)]
-pub enum Row<'t> {
-    Lawful(&'t [u8]),
-    Unlawful(&'t [u8]),
+pub enum Row<T> {
+    Lawful(T),
+    Unlawful(T),
 }
 
-impl<'t> Row<'t> {
-    pub(crate) fn text(&self) -> &'t [u8] {
+pub type TextRow<'t> = Row<&'t [u8]>;
+
+// Two numbers, and whether a value is made of them.
+pub type Pair = Row<(u32, u32)>;
+
+impl<T: Copy> Row<T> {
+    pub(crate) fn value(&self) -> T {
         match self {
-            Row::Lawful(text) => text,
-            Row::Unlawful(text) => text,
+            Row::Lawful(value) | Row::Unlawful(value) => *value,
         }
     }
 
     pub(crate) fn is_lawful(&self) -> bool {
-        match self {
-            Row::Lawful(_) => true,
-            Row::Unlawful(_) => false,
-        }
-    }
-}
-
-// What a kind says of texts.
-pub trait Kind {
-    // What the function says that only tells whether a text is lawful.
-    fn tells(text: &[u8]) -> bool;
-
-    // What `write` gives for the value that `read` gives; nothing where `read` gives none.
-    fn rewrites(text: &[u8]) -> Option<ShortText>;
-}
-
-// Two numbers, and whether a value is made of them.
-#[derive(Clone, Copy)]
-pub enum Pair {
-    Made(u32, u32),
-    Refused(u32, u32),
-}
-
-impl Pair {
-    pub(crate) fn numbers(&self) -> (u32, u32) {
-        match self {
-            Pair::Made(first, second) => (*first, *second),
-            Pair::Refused(first, second) => (*first, *second),
-        }
+        matches!(self, Row::Lawful(_))
     }
 
-    // A value that is made has to hold the two numbers.
-    pub(crate) fn agrees(&self, held: Option<(u32, u32)>) -> bool {
+    // Another value, of which the same is expected.
+    pub(crate) fn with<U>(&self, value: U) -> Row<U> {
         match self {
-            Pair::Made(first, second) => held == Some((*first, *second)),
-            Pair::Refused(_, _) => held.is_none(),
+            Row::Lawful(_) => Row::Lawful(value),
+            Row::Unlawful(_) => Row::Unlawful(value),
         }
     }
 }

@@ -1,15 +1,12 @@
 // Stock rows: an item from 1 to 999,999, a comma, 0 to 999 copies.
 use crate::report::Report;
-use crate::rows::Pair::{Made, Refused};
 use crate::rows::Row::{Lawful, Unlawful};
-use crate::rows::{Kind, Pair, Row};
-use kinds::content::Content;
+use crate::rows::{Pair, TextRow};
 use kinds::stock_row::StockRow;
-use kinds::stock_rows::is_stock_row;
+use kinds::written::Written;
 use std::io;
-use texts::text::ShortText;
 
-const RANGES: [Row; 16] = [
+const RANGES: [TextRow; 16] = [
     Lawful(b"1,0"),
     Lawful(b"1,1"),
     Lawful(b"1,999"),
@@ -29,7 +26,7 @@ const RANGES: [Row; 16] = [
     Unlawful(b"9999999,9999"),
 ];
 
-const FORMS: [Row; 24] = [
+const FORMS: [TextRow; 24] = [
     Unlawful(b"01,1"),
     Unlawful(b"070412,3"),
     Unlawful(b"1,00"),
@@ -57,48 +54,29 @@ const FORMS: [Row; 24] = [
 ];
 
 const PAIRS: [Pair; 10] = [
-    Made(1, 0),
-    Made(1, 999),
-    Made(999_999, 0),
-    Made(999_999, 999),
-    Refused(0, 0),
-    Refused(0, 999),
-    Refused(1_000_000, 0),
-    Refused(1, 1_000),
-    Refused(4_294_967_295, 0),
-    Refused(1, 4_294_967_295),
+    Lawful((1, 0)),
+    Lawful((1, 999)),
+    Lawful((999_999, 0)),
+    Lawful((999_999, 999)),
+    Unlawful((0, 0)),
+    Unlawful((0, 999)),
+    Unlawful((1_000_000, 0)),
+    Unlawful((1, 1_000)),
+    Unlawful((4_294_967_295, 0)),
+    Unlawful((1, 4_294_967_295)),
 ];
-
-impl Kind for StockRow {
-    fn tells(text: &[u8]) -> bool {
-        is_stock_row(text)
-    }
-
-    fn rewrites(text: &[u8]) -> Option<ShortText> {
-        Some(StockRow::read(text)?.write())
-    }
-}
 
 fn held(item: u32, copies: u32) -> Option<(u32, u32)> {
     let row = StockRow::new(item, copies)?;
     Some((row.item(), row.copies()))
 }
 
-fn try_pairs(report: &Report) -> io::Result<()> {
-    for pair in &PAIRS {
-        let (item, copies) = pair.numbers();
-        report.pair(pair, held(item, copies))?;
-    }
-    Ok(())
-}
-
 pub(crate) fn tables(report: &Report) -> io::Result<()> {
     report.title("Stock rows: limits")?;
-    report.rows::<StockRow>(&RANGES)?;
-    report.count("StockRow::LONGEST", StockRow::LONGEST, 10)?;
-    report.count("StockRow::longest_text()", StockRow::longest_text(), 10)?;
+    report.kind::<StockRow>(&RANGES)?;
+    report.longest::<StockRow>("StockRow", 10)?;
     report.title("Stock rows: form")?;
-    report.rows::<StockRow>(&FORMS)?;
+    report.kind::<StockRow>(&FORMS)?;
     report.title("Stock rows: made of two numbers")?;
-    try_pairs(report)
+    report.pairs(&PAIRS, held)
 }

@@ -1,12 +1,7 @@
 // The loan tool: reads a script from standard input, and prints the answer of each command.
 #![tactic(auto)]
 
-ghost use Rattle.std.specs.Prelude.{◌≤◌, length};
-
-use kinds::content::Content;
-use kinds::identifier::Identifier;
 use lending::shelf::Shelf;
-use page::sheet::Sheet;
 use script::machine::{LONGEST_SCRIPT, Script};
 use script::tool::perform;
 use std::io::{Read, Write};
@@ -14,33 +9,29 @@ use std::io::{Read, Write};
 // One byte more than the longest script, to tell one that is too long.
 const MOST_INPUT: usize = LONGEST_SCRIPT + 1;
 
-// Fills the memory from standard input as far as the input goes, and says how far. An input that fails ends there.
-fn read_input(rt: &HostRuntime, memory: &mut [u8]) -> usize
-    ensures within { result ≤ length memory.old }
-{
+// What standard input gives, as far as there is memory for it. An input that fails ends there.
+// No `read_to_end`: the tool needs no heap, so that it never lacks memory.
+fn read_input<'m>(rt: &HostRuntime, memory: &'m mut [u8]) -> &'m [u8] {
     let mut input = rt.stdin();
     let mut len = 0;
-    for _ in 0..memory.len() {
+    while len < memory.len() {
         match input.read(&mut memory[len..]) {
-            Ok(0) => return len,
+            Ok(0) | Err(_) => break,
             Ok(more) => len += more,
-            Err(_) => return len,
         }
     }
-    len
+    &memory[..len]
 }
 
 fn main(rt: HostRuntime) {
-    let mut input = [0; MOST_INPUT];
-    let len = read_input(&rt, &mut input);
+    let mut memory = [0; MOST_INPUT];
+    let script = Script::new(read_input(&rt, &mut memory));
     let mut shelf = Shelf::new();
     let mut volume = shelf.volume();
-    let mut script = Script::new(&input[0..len]);
-    let mut sheet = Sheet::new();
     let mut output = rt.stdout();
-    while let Some(command) = script.next() {
-        perform(&mut volume, command, &mut sheet);
-        if output.write_all(sheet.as_slice()).is_err() {
+    for command in script {
+        let text = perform(&mut volume, command);
+        if output.write_all(text.as_slice()).is_err() {
             return;
         }
     }

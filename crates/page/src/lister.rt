@@ -1,12 +1,15 @@
 // The choice of the next line of a page.
-ghost use Rattle.std.specs.Prelude.{◌+◌, ◌<◌, ◌≤◌};
+ghost use Rattle.std.specs.Prelude.{◌≡◌, ◌+◌, ◌<◌, ◌≤◌, true, IfSome};
+ghost use Rattle.std.specs.Iterator.{at_most};
+ghost use Rattle.store.specs.Bits.{bit};
+ghost use Rattle.page.specs.Ranks.{ranks};
 
 use crate::listing::Spot;
 use store::row::Row;
 use store::rows::Rows;
 use store::sizes::MOST_LINES;
 
-// How far the listing has come.
+// The spots of a page, in their order.
 #[derive(Drop)]
 pub struct Lister {
     // What each line reaches, and what each line is reached by.
@@ -17,6 +20,11 @@ pub struct Lister {
     // The knot that was begun last, and what every line listed so far reaches.
     knot: Row,
     shared: Row,
+    // Where the line stands that was listed last. Before the first, the block is 0.
+    last: Spot,
+    // Each block and each knot begins with a line that was free.
+    ghost blocks: { last.block + ranks free ≤ 256 },
+    ghost knots: { last.knot + ranks free ≤ 256 },
 }
 
 impl Lister {
@@ -27,18 +35,23 @@ impl Lister {
             free: *live,
             knot: Row::empty(),
             shared: *live,
+            last: Spot::default(),
         }
     }
 
     // The line to list next: the knot begun goes on, else the least line that is ready begins one.
-    pub(crate) fn next(&self) -> Option<usize> {
+    fn next_rank(&self) -> Option<usize>
+        ensures free { IfSome result (λ rank. bit self.now.free rank ≡ true) }
+    {
         let mut begun = self.knot;
         begun.keep(&self.free);
-        if begun.is_empty() {
-            self.least_ready()
-        } else {
-            least(&begun)
-        }
+        begun.least().or_else(|| self.least_ready())
+    }
+
+    fn least_ready(&self) -> Option<usize>
+        ensures free { IfSome result (λ rank. bit self.now.free rank ≡ true) }
+    {
+        (0..MOST_LINES).find(|rank| self.free.has(*rank) && self.is_ready(*rank))
     }
 
     // A line is ready when all that reach it from outside its knot are listed.
@@ -49,15 +62,6 @@ impl Lister {
         missing.is_empty()
     }
 
-    fn least_ready(&self) -> Option<usize> {
-        for rank in 0..MOST_LINES {
-            if self.free.has(rank) && self.is_ready(rank) {
-                return Some(rank);
-            }
-        }
-        None
-    }
-
     // Whether every line listed so far reaches every line that is not: then a block ends here.
     fn at_cut(&self) -> bool {
         let mut unreached = self.free;
@@ -65,36 +69,27 @@ impl Lister {
         unreached.is_empty()
     }
 
-    // Where the line stands that follows on the last one. Before the first, the last block is 0.
-    pub(crate) fn place(&self, last: &Spot, rank: usize) -> Spot
-        requires block { last.now.block < 256 }
-        requires knot { last.now.knot < 256 }
-        ensures block { result.block ≤ last.now.block + 1 }
-        ensures knot { result.knot ≤ last.now.knot + 1 }
+    // Where the line stands that follows on the last one.
+    fn place(&self, rank: usize) -> Spot
+        ensures block { result.block ≤ self.now.last.block + 1 }
+        ensures knot { result.knot ≤ self.now.last.knot + 1 }
     {
-        if self.knot.has(rank) {
-            Spot {
-                block: last.block,
-                knot: last.knot,
-                rank,
-            }
+        let last = self.last;
+        let (block, knot) = if self.knot.has(rank) {
+            (last.block, last.knot)
         } else if self.at_cut() {
-            Spot {
-                block: last.block + 1,
-                knot: 1,
-                rank,
-            }
+            (last.block + 1, 1)
         } else {
-            Spot {
-                block: last.block,
-                knot: last.knot + 1,
-                rank,
-            }
-        }
+            (last.block, last.knot + 1)
+        };
+        Spot { block, knot, rank }
     }
 
     // The line is listed now.
-    pub(crate) fn take(&mut self, rank: usize) {
+    fn take(&mut self, rank: usize)
+        ensures last { self.new.last ≡ self.old.last }
+        ensures fewer { bit self.old.free rank ≡ true → ranks self.new.free < ranks self.old.free }
+    {
         let mut listed = Row::empty();
         listed.add(rank);
         let reached = self.after.row(rank);
@@ -107,12 +102,17 @@ impl Lister {
     }
 }
 
-// The least rank of a row.
-fn least(row: &Row) -> Option<usize> {
-    for rank in 0..MOST_LINES {
-        if row.has(rank) {
-            return Some(rank);
-        }
+// Each call lists a line that was free.
+impl Iterator for Lister {
+    type Item = Spot;
+
+    ghost remaining = { λ s. at_most (ranks s.free) };
+
+    fn next(&mut self) -> Option<Spot> {
+        let rank = self.next_rank()?;
+        let spot = self.place(rank);
+        self.take(rank);
+        self.last = spot;
+        Some(spot)
     }
-    None
 }

@@ -1,5 +1,5 @@
 // The lines of a page in their order, with the numbers of their blocks and knots.
-ghost use Rattle.std.specs.Prelude.{◌≤◌};
+ghost use Rattle.std.specs.Prelude.{◌≤◌, length};
 
 use crate::lister::Lister;
 use store::row::Row;
@@ -7,7 +7,7 @@ use store::rows::Rows;
 use store::sizes::MOST_LINES;
 
 // Where a line stands on the page. Blocks count from 1, and knots from 1 in each block.
-#[derive(Clone, Copy)]
+#[derive(Clone, Copy, Default)]
 pub struct Spot {
     pub block: usize,
     pub knot: usize,
@@ -22,63 +22,64 @@ pub enum Kind {
     Ring,
 }
 
+impl Kind {
+    pub(crate) fn name(self) -> &'static [u8] {
+        match self {
+            Kind::Plain => b"plain",
+            Kind::Fork => b"fork",
+            Kind::Ring => b"ring",
+        }
+    }
+}
+
+// The spots are the first `count`. A buffer with a length beside, since a listing is copied and nothing is allocated.
 #[derive(Clone, Copy)]
 pub struct Listing {
     spots: [Spot; MOST_LINES],
     count: usize,
+    ghost within: { count ≤ 256 },
 }
 
 impl Listing {
     fn empty() -> Listing {
         Listing {
-            spots: [Spot {
-                block: 0,
-                knot: 0,
-                rank: 0,
-            }; MOST_LINES],
+            spots: [Spot::default(); MOST_LINES],
             count: 0,
         }
+    }
+
+    // The spots, in the order of the page.
+    pub(crate) fn spots(&self) -> &[Spot]
+        ensures within { length result.now ≤ 256 }
+    {
+        &self.spots[..self.count]
     }
 
     pub fn len(&self) -> usize
         ensures within { result ≤ 256 }
     {
-        if self.count < MOST_LINES {
-            self.count
-        } else {
-            MOST_LINES
-        }
+        self.count
     }
 
     // The spot at a place counted from 0; nothing beyond the last.
     pub fn get(&self, place: usize) -> Option<Spot> {
-        if place < self.len() {
-            Some(self.spots[place])
-        } else {
-            None
-        }
+        self.spots().get(place).copied()
     }
 
     fn push(&mut self, spot: Spot) {
-        let count = self.len();
-        if count < MOST_LINES {
-            self.spots[count] = spot;
-            self.count = count + 1;
+        if let Some(slot) = self.spots.get_mut(self.count) {
+            *slot = spot;
+            self.count += 1;
         }
     }
 
     // The kind of a block: how many lines it has, and whether they are all in its first knot.
     pub fn kind(&self, block: usize) -> Kind {
-        let mut lines: usize = 0;
-        let mut one_knot = true;
-        for place in 0..self.len() {
-            if let Some(spot) = self.get(place) {
-                if spot.block == block {
-                    lines += 1;
-                    one_knot = one_knot && spot.knot == 1;
-                }
-            }
-        }
+        let spots = self.spots();
+        let lines = spots.iter().filter(|spot| spot.block == block).count();
+        let one_knot = spots
+            .iter()
+            .all(|spot| spot.block != block || spot.knot == 1);
         if lines == 1 {
             Kind::Plain
         } else if one_knot {
@@ -92,18 +93,7 @@ impl Listing {
 // The listing of the live lines, from what each line reaches.
 pub fn list(reach: &Rows, live: &Row) -> Listing {
     let mut listing = Listing::empty();
-    let mut lister = Lister::new(reach, live);
-    let mut spot = Spot {
-        block: 0,
-        knot: 0,
-        rank: 0,
-    };
-    for turn in 0..MOST_LINES {
-        let Some(rank) = lister.next() else {
-            return listing;
-        };
-        spot = lister.place(&spot, rank);
-        lister.take(rank);
+    for spot in Lister::new(reach, live) {
         listing.push(spot);
     }
     listing

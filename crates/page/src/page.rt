@@ -24,6 +24,6 @@ pub fn write_page<S: Store>(store: &S, memory: &mut [u8]) -> Result<usize, Refus
     if memory.len() < needed {
         return Err(Refusal::plain(Reason::ShortMemory, needed, Layer::Page));
     }
-    fill(store, &listing, &mut memory[0..needed]);
+    fill(store, &listing, &mut memory[..needed]);
     Ok(needed)
 }

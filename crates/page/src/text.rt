@@ -13,19 +13,11 @@ type RowText = Text<112>;
 
 const HEADING: [u8; 26] = *b"block;kind;knot;line;text\n";
 
-fn kind_name(kind: Kind) -> &'static [u8] {
-    match kind {
-        Kind::Plain => b"plain",
-        Kind::Fork => b"fork",
-        Kind::Ring => b"ring",
-    }
-}
-
 fn row_text<I: Identifier, C: Content>(spot: &Spot, kind: Kind, line: &Line<I, C>) -> RowText {
     let mut text = Text::new();
     text.append_number(spot.block);
     text.push(b';');
-    text.append(kind_name(kind));
+    text.append(kind.name());
     text.push(b';');
     text.append_number(spot.knot);
     text.push(b';');
@@ -36,45 +28,40 @@ fn row_text<I: Identifier, C: Content>(spot: &Spot, kind: Kind, line: &Line<I, C
     text
 }
 
-// The page's line at a place; nothing beyond the last.
-fn row_at<S: Store>(store: &S, listing: &Listing, place: usize) -> Option<RowText> {
-    let spot = listing.get(place)?;
+// The page's line at a spot; nothing where the store has no such line.
+fn row_at<S: Store>(store: &S, listing: &Listing, spot: &Spot) -> Option<RowText> {
     let line = store.line(spot.rank)?;
-    Some(row_text(&spot, listing.kind(spot.block), &line))
+    Some(row_text(spot, listing.kind(spot.block), &line))
 }
 
-// How many bytes the page has.
+// How many bytes the page has. A loop: the bound of a chain's `sum` stays open.
 pub(crate) fn page_len<S: Store>(store: &S, listing: &Listing) -> usize
     ensures least { 26 ≤ result }
     ensures bound { result ≤ 28698 }
 {
     let mut len = HEADING.len();
-    for place in 0..listing.len() {
-        if let Some(row) = row_at(store, listing, place) {
+    for spot in listing.spots() {
+        if let Some(row) = row_at(store, listing, spot) {
             len += row.len();
         }
     }
     len
 }
 
-// Writes bytes from a place on, as far as the memory goes, and says where they end.
-fn put(memory: &mut [u8], at: usize, bytes: &[u8]) -> usize {
-    let mut end = at;
-    for byte in bytes {
-        if end < memory.len() {
-            memory[end] = *byte;
-            end += 1;
-        }
-    }
-    end
+// Writes bytes at the front of the memory, as far as it goes, and gives the rest of it.
+fn put<'m>(memory: &'m mut [u8], bytes: &[u8]) -> &'m mut [u8] {
+    let len = bytes.len().min(memory.len());
+    let (front, rest) = memory.split_at_mut(len);
+    front.copy_from_slice(&bytes[..len]);
+    rest
 }
 
 // Writes the page, as far as the memory goes.
 pub(crate) fn fill<S: Store>(store: &S, listing: &Listing, memory: &mut [u8]) {
-    let mut at = put(memory, 0, &HEADING);
-    for place in 0..listing.len() {
-        if let Some(row) = row_at(store, listing, place) {
-            at = put(memory, at, row.as_slice());
+    let mut rest = put(memory, &HEADING);
+    for spot in listing.spots() {
+        if let Some(row) = row_at(store, listing, spot) {
+            rest = put(rest, row.as_slice());
         }
     }
 }

@@ -1,35 +1,31 @@
--- The steps of looking for a name among the pieces of line 1.
-use Rattle.std.proofs.Common.{◌≡◌, ℕ, suc, ◌+◌, ◌<◌, ◌≤◌, true, false, List, [], length, get_or, drop, refl, ap, ◌∙◌, ⊎_elim, arith}
+-- Looking for a name among the pieces of line 1.
+use Rattle.std.proofs.Common.{◌≡◌, ℕ, suc, Bool, true, false, cond, ltb, List, [], ◌∷◌, length, Some, None, MatchOption, sym, refl, ap, ◌∙◌, arith}
+use Rattle.std.specs.List.{position, position_or_len}
 use Rattle.std.specs.Str.{bytes_eq}
-use Rattle.std.proofs.lemmas.Bool.{cases_Bool, cond-true, cond-false}
-use Rattle.std.proofs.lemmas.List.{drop_more, drop_all}
-use Rattle.std.proofs.lemmas.Slice.Eq.{bytes_eq-Decides}
+use Rattle.std.proofs.lemmas.Bool.{cond_both, lt-ltb}
+use Rattle.std.proofs.lemmas.Bool.Decides.{nat_tests}
+use Rattle.std.proofs.lemmas.List.Recursion.{is_position_or_len}
 use Rattle.graggle.specs.Texts.{Text, has, place}
 
-pub record Sought (t : Text) (hs : List Text) (i : ℕ) : Type 0 where
-  pub has_is : has t hs ≡ has t (drop i hs)
-  pub place_is : place t hs ≡ i + place t (drop i hs)
+ltb_suc : (a b : ℕ) → ltb a b ≡ ltb (suc a) (suc b)
+ltb_suc a b = grind (arith, nat_tests)
 
-pub sought_start : (t : Text) (hs : List Text) → Sought t hs 0
-sought_start t hs = record { has_is = refl; place_is = omega arith }
+module _ (t : Text) where
+  place_is : (hs : List Text) → place t hs ≡ position_or_len (λ p. bytes_eq p t) hs
+  place_is = is_position_or_len (place t) (λ p. bytes_eq p t) refl (λ p hs. ap (cond (bytes_eq p t) 0) (omega arith))
 
-module _ (t : Text) (hs : List Text) (i : ℕ) where
-  pub seek_more : i < length hs → (get_or hs i [] ≡ t → ⊥) → Sought t hs i → Sought t hs (i + 1)
-  seek_more l n s =
-      let d = drop_more hs i [] l in
-      let k : bytes_eq (get_or hs i []) t ≡ false = ⊎_elim (λ e. absurd (n ((bytes_eq-Decides (get_or hs i []) t).0 e))) (λ e. e) (cases_Bool (bytes_eq (get_or hs i []) t)) in
-      let p : place t (drop i hs) ≡ suc (place t (drop (i + 1) hs)) = ap (place t) d ∙ cond-false (bytes_eq (get_or hs i []) t) _ _ k in
-      record {
-        has_is = s.has_is ∙ ap (has t) d ∙ cond-false (bytes_eq (get_or hs i []) t) _ _ k;
-        place_is = omega (arith, p, s.place_is);
-      }
+  -- a name is there where its place is one of the pieces'
+  has_is : (hs : List Text) → has t hs ≡ ltb (place t hs) (length hs)
+  has_is [] = refl
+  has_is (p ∷ hs) = go (bytes_eq p t) (has_is hs)
+    where
+      go : (b : Bool) → has t hs ≡ ltb (place t hs) (length hs) → cond b true (has t hs) ≡ ltb (cond b 0 (suc (place t hs))) (length (p ∷ hs))
+      go true e = sym (lt-ltb 0 (length (p ∷ hs)) (omega arith))
+      go false e = e ∙ ltb_suc (place t hs) (length hs)
 
-  pub seek_here : i < length hs → get_or hs i [] ≡ t → Sought t hs i → (has t hs ≡ true) × (i ≡ place t hs)
-  seek_here l e s =
-      let d = drop_more hs i [] l in
-      let k : bytes_eq (get_or hs i []) t ≡ true = (bytes_eq-Decides (get_or hs i []) t).1 e in
-      let p : place t (drop i hs) ≡ 0 = ap (place t) d ∙ cond-true (bytes_eq (get_or hs i []) t) _ _ k in
-      (s.has_is ∙ ap (has t) d ∙ cond-true (bytes_eq (get_or hs i []) t) _ _ k, omega (arith, p, s.place_is))
-
-  pub seek_none : length hs ≤ i → Sought t hs i → has t hs ≡ false
-  seek_none l s = s.has_is ∙ ap (has t) (drop_all i hs l)
+  pub found_by : (hs : List Text) → MatchOption (position (λ p. bytes_eq p t) hs) (has t hs ≡ false) (λ i. (has t hs ≡ true) × (i ≡ place t hs))
+  found_by hs =
+      let e = place_is hs in
+      cond_both (ltb (position_or_len (λ p. bytes_eq p t) hs) (length hs)) (Some (position_or_len (λ p. bytes_eq p t) hs)) None (λ o. MatchOption o (has t hs ≡ false) (λ i. (has t hs ≡ true) × (i ≡ place t hs)))
+      (λ h. (has_is hs ∙ ap (λ n. ltb n (length hs)) e ∙ h, sym e))
+      (λ h. has_is hs ∙ ap (λ n. ltb n (length hs)) e ∙ h)

@@ -1,4 +1,5 @@
 pub mod HeadSteps
-pub mod NameSteps
 pub mod LineSteps
+pub mod Mapped
+pub mod NameSteps
 pub mod Refusing

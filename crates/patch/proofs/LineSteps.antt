@@ -1,33 +1,21 @@
 -- The steps of reading value lines.
-use Rattle.std.proofs.Common.{◌≡◌, ℕ, ◌+◌, Bool, true, false, cond, eqb, List, [], ◌∷◌, length, get_or, None, sym, refl, ap, ◌∙◌, subst, arith}
+use Rattle.std.proofs.Common.{◌≡◌, ℕ, ◌+◌, Bool, true, cond, eqb, List, [], ◌∷◌, length, Ok, Err, MatchResult, Result, sym, refl, ap, ◌∙◌}
+use Rattle.std.specs.Result.{result_ok}
 use Rattle.std.proofs.lemmas.Bool.{cond-true, cond-false, eq-eqb, ne_eqb}
 use Rattle.graggle.specs.Texts.{Text, split, join}
-use Rattle.graggle.specs.Entries.{Entry, Column}
-use Rattle.graggle.specs.Entries.Column.{act, line, to, text}
+use Rattle.graggle.specs.Entries.{Entry, Column, Reading}
 use Rattle.graggle.specs.Entries.Reading.{unread, entries}
-use Rattle.graggle.specs.Reading.{act_of, cell, entry, found, heads_fit, last, letter, lines, more, read, value_line, then, values}
+use Rattle.graggle.specs.Reading.{found, heads_fit, last, lines, more, read, value_line, then, values}
 use Rattle.graggle.proofs.Splitting.{SomePiece, some_piece, join_split}
 use Rattle.graggle.proofs.Splitting.SomePiece.{pieces}
-use Rattle.patch.specs.Meant.{Ahead, Amiss, coming, heard}
+use Rattle.patch.specs.declared.entries.Entry as patch
+use Rattle.patch.specs.declared.reader.Entries.{Entries}
+use Rattle.patch.specs.declared.values.LineFault.{LineFault}
+use Rattle.patch.specs.Meant.{Ahead, Amiss, GivesNext, Leaves, coming, entry_of, heard, places_of, reason_of, to_come}
 use Rattle.patch.specs.Meant.Amiss.{unended, is_wrong}
-
--- the act of a text of one byte
-act_one : (a : Text) → length a ≡ 1 → act_of a ≡ letter (get_or a 0 0)
-act_one [] h = absurd (let z : ⊥ = omega arith in z)
-act_one (c ∷ []) h = refl
-act_one (c ∷ d ∷ a) h = absurd (let z : ⊥ = omega arith in z)
-
-pub letter_none : (c : ℕ) → (c ≡ 97 → ⊥) → (c ≡ 107 → ⊥) → (c ≡ 115 → ⊥) → letter c ≡ None
-letter_none c m n o = cond-false (eqb c 97) _ _ (ne_eqb c 97 m) ∙ cond-false (eqb c 107) _ _ (ne_eqb c 107 n) ∙ cond-false (eqb c 115) _ _ (ne_eqb c 115 o)
+use Rattle.patch.specs.Refusals.{number_of}
 
 module _ (ids contents : Text → Bool) (at : Column → ℕ) where
-  -- a line of four values says what its act says of the others
-  pub line_by : (ps : List Text) (a l b x : Text) → length ps ≡ 4 → a ≡ cell at ps act → l ≡ cell at ps line → b ≡ cell at ps to → x ≡ cell at ps text → length a ≡ 1 → entry ids contents (letter (get_or a 0 0)) l b x ≡ value_line ids contents at ps
-  line_by ps a l b x four p q r s one =
-      ap (λ o. entry ids contents o l b x) (sym (act_one a one))
-      ∙ (λ i. entry ids contents (act_of (p i)) (q i) (r i) (s i))
-      ∙ sym (cond-true (eqb (length ps) 4) _ _ (eq-eqb (length ps) 4 four))
-
   coming_more : (p : Text) (ps : List Text) → SomePiece ps → coming ids contents at (p ∷ ps) ≡ heard (value_line ids contents at (split 59 p)) (coming ids contents at ps)
   coming_more p _ (pieces q ps) = refl
 
@@ -75,28 +63,35 @@ module _ (ids contents : Text → Bool) (at : Column → ℕ) where
     pub ahead : (t behind : Text) (x : Entry) → (k ≡ 128 → ⊥) → Ahead ids contents at t behind x → values ids contents at k (split 10 t) ≡ more x (values ids contents at (k + 1) (split 10 behind))
     ahead t behind x e a = next a.line t behind e a.lines ∙ ap (λ y. then y (k + 2) (values ids contents at (k + 1) (split 10 behind))) a.says_it
 
-    pub no_line : (t : Text) → length t ≡ 0 → k ≡ 0 → values ids contents at k (split 10 t) ≡ unread 5 2
-    no_line [] l e = cond-true (eqb k 0) _ _ (eq-eqb k 0 e)
-    no_line (c ∷ t) l e = absurd (let z : ⊥ = omega arith in z)
+module _ (ids contents : Text → Bool) {I C : Type 0} where
+  -- the next entry, where the reader of the front line answers this
+  pub gives_next : (t : I → Text) (u : C → Text) (s s' : Entries I C) (r : Result (patch.Entry I C) LineFault) → MatchResult r (λ e. Leaves ids contents s s' (entry_of t u e)) (λ f. Amiss ids contents (places_of s.columns) s.rest.now (number_of (reason_of f)) × (s' ≡ s)) → GivesNext ids contents t u s (result_ok r) s'
+  gives_next t u s s' (Ok e) l = record {
+    gives = rw l.1 (comes_next ids contents (places_of s.columns) s.rest.now s'.rest.now (entry_of t u e) l.0);
+    moves = record { line = l.0.line; lines = l.0.lines; columns = l.1 };
+  }
+  gives_next t u s s' (Err f) a = record {
+    gives = (none_comes ids contents (places_of s.columns) s.rest.now (number_of (reason_of f)) a.0, a.1);
+    moves = tt;
+  }
 
-    pub all_read : (t : Text) → length t ≡ 0 → (k ≡ 0 → ⊥) → values ids contents at k (split 10 t) ≡ entries (coming ids contents at (split 10 t))
-    all_read [] l e = cond-false (eqb k 0) _ _ (ne_eqb k 0 e)
-    all_read (c ∷ t) l e = absurd (let z : ⊥ = omega arith in z)
+  abbrev pub reading : ℕ → Entries I C → Reading
+  reading k s = values ids contents (places_of s.columns) k (split 10 s.rest.now)
 
   -- what is read of the rest after k lines is what is read of them all: the fault, or that there is none
-  pub record Carries (k : ℕ) (rest all : Text) : Type 0 where
-    pub faults : (n p : ℕ) → values ids contents at k (split 10 rest) ≡ unread n p → values ids contents at 0 (split 10 all) ≡ unread n p
-    pub wholes : values ids contents at k (split 10 rest) ≡ entries (coming ids contents at (split 10 rest)) → values ids contents at 0 (split 10 all) ≡ entries (coming ids contents at (split 10 all))
+  pub record Carries (k : ℕ) (s all : Entries I C) : Type 0 where
+    pub faults : (n p : ℕ) → reading k s ≡ unread n p → reading 0 all ≡ unread n p
+    pub wholes : reading k s ≡ entries (to_come ids contents s) → reading 0 all ≡ entries (to_come ids contents all)
 
-  pub carries_start : (all : Text) → Carries 0 all all
-  carries_start all = record { faults = λ n p h. h; wholes = λ h. h }
-
-  pub carries_on : (k m : ℕ) (rest behind all : Text) (e : Entry) → m ≡ k + 1 → (k ≡ 128 → ⊥) → Ahead ids contents at rest behind e → Carries k rest all → Carries m behind all
-  carries_on k m rest behind all e j h a c =
-      subst (λ i. Carries i behind all) (sym j) (record {
-        faults = λ n p q. c.faults n p (ahead k rest behind e h a ∙ ap (more e) q);
-        wholes = λ q. c.wholes (ahead k rest behind e h a ∙ ap (more e) q ∙ ap entries (sym (comes_next rest behind e a)));
-      })
+  pub carries_on : (k : ℕ) (s s' all : Entries I C) (e : Entry) → (k ≡ 128 → ⊥) → Leaves ids contents s s' e → Carries k s all → Carries (k + 1) s' all
+  carries_on k s s' all e h l c =
+      let at = places_of s.columns in
+      let same : places_of s'.columns ≡ at = ap places_of l.1 in
+      let a = ahead ids contents at k s.rest.now s'.rest.now e h l.0 in
+      record {
+        faults = λ n p q. c.faults n p (a ∙ ap (more e) (rw same at q));
+        wholes = λ q. c.wholes (a ∙ ap (more e) (rw same at q) ∙ ap entries (sym (comes_next ids contents at s.rest.now s'.rest.now e l.0)));
+      }
 
 -- the text behind line 1, where line 1 is the four names
 pub lines_behind : (ids contents : Text → Bool) (at : Column → ℕ) (t h rest : Text) → split 10 t ≡ h ∷ split 10 rest → heads_fit (split 59 h) ≡ true → at ≡ found (split 59 h) → read ids contents t ≡ values ids contents at 0 (split 10 rest)
@@ -106,13 +101,3 @@ lines_behind ids contents at t h rest s f p =
   where
     first : (ps : List Text) → SomePiece ps → lines ids contents (h ∷ ps) ≡ cond (heads_fit (split 59 h)) (values ids contents (found (split 59 h)) 0 ps) (unread 2 1)
     first _ (pieces q ps) = refl
-
-pub no_ending : (ids contents : Text → Bool) (t : Text) → split 10 t ≡ t ∷ [] → read ids contents t ≡ unread 2 1
-no_ending ids contents t s = ap (lines ids contents) s
-
-pub no_heading : (ids contents : Text → Bool) (t h rest : Text) → split 10 t ≡ h ∷ split 10 rest → heads_fit (split 59 h) ≡ false → read ids contents t ≡ unread 2 1
-no_heading ids contents t h rest s f =
-    ap (lines ids contents) s ∙ first (split 10 rest) (some_piece 10 rest)
-  where
-    first : (ps : List Text) → SomePiece ps → lines ids contents (h ∷ ps) ≡ unread 2 1
-    first _ (pieces q ps) = cond-false (heads_fit (split 59 h)) _ _ f

@@ -1,14 +1,11 @@
 -- The steps of reading, writing and comparing a name.
-use Rattle.std.proofs.Common.{◌≡◌, ℕ, ◌≤◌, Bool, true, false, ◌↔◌, [], ◌∷◌, ◌++◌, length, Some, None, decimal, Decides, Option, Ordering, Less, Equal, Greater, sym, refl, ap, ◌∙◌, arith, length-append}
-use Rattle.std.specs.Ordering.{is_eq}
-use Rattle.std.proofs.lemmas.Bool.{cond-true, cond-false, cond_both, false≢true}
+use Rattle.std.proofs.Common.{◌≡◌, ℕ, ◌≤◌, Bool, true, false, ◌↔◌, [], ◌∷◌, ◌++◌, length, take, Some, None, decimal, Option, sym, refl, ap, ◌∙◌, arith, length-append}
+use Rattle.std.proofs.lemmas.Bool.{cond-true, cond-false, cond_both}
 use Rattle.std.proofs.lemmas.Fmt.{length-decimal-le}
 use Rattle.graggle.specs.Texts.{Text, Free, split, two}
 use Rattle.graggle.specs.Numbers.{number}
-use Rattle.graggle.specs.Orders.{Total}
 use Rattle.graggle.specs.Names.{Name, WellNamed, with_patch, named, name, name_text}
 use Rattle.graggle.proofs.Naming.{name_from, name_parts, name_written}
-use Rattle.texts.specs.Shown.{filled, pushed}
 use Rattle.texts.proofs.Filling.{parted}
 
 module _ (ids : Text → Bool) (t : Text) where
@@ -33,20 +30,8 @@ module _ (ids : Text → Bool) (t : Text) where
   names_mean plain o e n = (λ h. name_from ids t n (sym e ∙ h), λ w. e ∙ ap (name ids) w.0 ∙ name_written ids n w.1 (plain n.patch w.1.lawful))
 
 -- at most 32 bytes, a colon and at most three digits
-pub name_filled : (s : Text) (n : ℕ) → length s ≤ 32 → n ≤ 255 → filled 36 (pushed 36 (filled 36 [] s) 58) (decimal n) ≡ s ++ (58 ∷ decimal n)
+pub name_filled : (s : Text) (n : ℕ) → length s ≤ 32 → n ≤ 255 → take 36 (take 36 (take 36 s ++ 58 ∷ []) ++ decimal n) ≡ s ++ (58 ∷ decimal n)
 name_filled s n h k =
     let d = length-decimal-le 3 n (omega arith) (omega arith) (omega arith) in
     let a = length-append s (58 ∷ decimal n) in
     parted 36 58 s (decimal n) (omega (arith, a, d))
-
-equal_from : (o : Ordering) → is_eq o ≡ true → o ≡ Equal
-equal_from Less e = absurd (false≢true e)
-equal_from Equal e = refl
-equal_from Greater e = absurd (false≢true e)
-
--- of two things of which P holds, `Equal` decides whether they are the same
-pub equal_decides : {A : Type 0} {P : A → Type 0} {order : A → A → Ordering} → Total P order → (x y : A) → P x → P y → (o : Ordering) (b : Bool) → o ≡ order x y → b ≡ is_eq o → Decides b (x ≡ y)
-equal_decides h x y p q o b e d = (
-  λ s. (h.same x y p q).0 (sym e ∙ equal_from o (sym d ∙ s)),
-  λ s. d ∙ ap is_eq (e ∙ (h.same x y p q).1 s),
-)

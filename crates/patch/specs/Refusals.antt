@@ -1,5 +1,5 @@
 -- The table of refusals: the number of each reason, the layer that gives it, what it points at and where it is placed.
-use Rattle.std.specs.Prelude.{◌≡◌, ℕ, ◌≤◌, Bool, true, ◌&&◌, ◌||◌, ◌⊎◌, ◌==◌, nat_lt}
+use Rattle.std.specs.Prelude.{◌≡◌, ℕ, ◌≤◌, Bool, true, ◌&&◌, ◌||◌, ◌⊎◌, List, codes, ◌==◌, nat_lt}
 use Rattle.patch.specs.declared.refusals.Cause.{Cause}
 use Rattle.patch.specs.declared.refusals.Cause.TheVariants as cause
 use Rattle.patch.specs.declared.refusals.Layer.{Layer}
@@ -57,6 +57,14 @@ layer_of DoesNotStand = layer.Volume
 layer_of IsNamed = layer.Volume
 layer_of ShortMemory = layer.Page
 layer_of BadScript = layer.Tool
+
+-- the word for a layer
+abbrev pub layer_name : Layer → List ℕ
+layer_name layer.Reader = codes "reader"
+layer_name layer.Volume = codes "volume"
+layer_name layer.Store = codes "store"
+layer_name layer.Page = codes "page"
+layer_name layer.Tool = codes "tool"
 
 -- what a cause is
 pub data Sort : Type 0 where
@@ -124,11 +132,3 @@ Tabled gives r =
     × (r.layer ≡ layer_of r.reason)
     × (sort_of r.cause ≡ points_at r.reason)
     × Placed r.reason r.place
-
--- a reason that this layer gives of a value line, with a cause of this sort
-abbrev pub LineFault : Layer → Sort → Reason → Type 0
-LineFault l s n =
-    (apply_gives n ≡ true)
-    × (layer_of n ≡ l)
-    × (points_at n ≡ s)
-    × ((p : ℕ) → ValueLine p → Placed n p)

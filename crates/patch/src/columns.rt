@@ -15,16 +15,13 @@ pub struct Columns {
     pub text: usize,
 }
 
-// Which of the four pieces of the heading is this name.
+// Which piece of the heading is this name.
 fn place_of(heading: &[u8], name: &[u8]) -> Option<usize>
-    ensures { length (split 59 heading.now) ≡ 4 → MatchOption result (has name.now (split 59 heading.now) ≡ false) (λ i. (has name.now (split 59 heading.now) ≡ true) × (i ≡ place name.now (split 59 heading.now))) }
+    ensures { MatchOption result (has name.now (split 59 heading.now) ≡ false) (λ i. (has name.now (split 59 heading.now) ≡ true) × (i ≡ place name.now (split 59 heading.now))) }
 {
-    for at in 0..4 {
-        if piece(heading, b';', at) == name {
-            return Some(at);
-        }
-    }
-    None
+    heading
+        .split(|byte| *byte == b';')
+        .position(|piece| piece == name)
 }
 
 impl Columns {

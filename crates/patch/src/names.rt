@@ -5,7 +5,6 @@ ghost use Rattle.graggle.specs.Names.{Name, WellNamed, name, name_order, name_te
 ghost use Rattle.graggle.specs.Kinds.{SameOrders};
 ghost use Rattle.graggle.specs.Orders.{Total};
 ghost use Rattle.graggle.specs.Texts.{Text as Bytes};
-ghost use Rattle.texts.specs.Shown.{shown};
 ghost use Rattle.patch.specs.Meant.{name_of, name_read};
 
 use kinds::identifier::Identifier;
@@ -19,7 +18,8 @@ const MOST_INDEX: u32 = 255;
 // Room for the longest name: 32 bytes, a colon and three digits.
 pub type NameText = Text<36>;
 
-#[derive(Clone, Copy)]
+// Ordered by identifier, then by index.
+#[derive(Clone, Copy, PartialEq, Eq, PartialOrd, Ord, Default)]
 pub struct LineName<I> {
     pub patch: I,
     pub index: u8,
@@ -28,8 +28,8 @@ pub struct LineName<I> {
 impl<I: Identifier> LineName<I> {
     // The name that a text writes; nothing for any other text.
     pub fn read(text: &[u8]) -> Option<LineName<I>>
-        ensures reads { name_read I.Identifier.text result ≡ name I.Identifier.lawful text.now }
-        ensures means { (n : Name) → (name_read I.Identifier.text result ≡ Some n) ↔ ((text.now ≡ name_text n) × WellNamed I.Identifier.lawful n) }
+        ensures reads { name_read I.text result ≡ name I.lawful text.now }
+        ensures means { (n : Name) → (name_read I.text result ≡ Some n) ↔ ((text.now ≡ name_text n) × WellNamed I.lawful n) }
     {
         let (patch, index) = split_first(text, b':')?;
         let patch = I::read(patch)?;
@@ -41,34 +41,33 @@ impl<I: Identifier> LineName<I> {
     }
 
     pub fn write(&self) -> NameText
-        ensures { shown result ≡ name_text (name_of I.Identifier.text self.now) }
+        ensures { result ≡ name_text (name_of I.text self.now) }
     {
-        let mut text = Text::new();
-        text.append(self.patch.write().as_slice());
+        let mut text = Text::from_slice(self.patch.write().as_slice());
         text.push(b':');
         text.append_number(self.index as usize);
         text
     }
 
-    // By identifier, then by index.
+    // The order of names, told in texts: the contract is what holds it to the rules.
     pub fn compare(&self, other: &LineName<I>) -> Ordering
-        ensures order { result ≡ name_order I.Identifier.order (name_of I.Identifier.text self.now) (name_of I.Identifier.text other.now) }
-        ensures alike { (same : Bytes → Bytes → Ranking) → SameOrders I.Identifier.lawful I.Identifier.order same → result ≡ name_order same (name_of I.Identifier.text self.now) (name_of I.Identifier.text other.now) }
-        ensures total { Total (λ (n : Name). I.Identifier.lawful n.patch ≡ true) (name_order I.Identifier.order) }
+        ensures order { result ≡ name_order I.order (name_of I.text self.now) (name_of I.text other.now) }
+        ensures alike { (same : Bytes → Bytes → Ranking) → SameOrders I.lawful I.order same → result ≡ name_order same (name_of I.text self.now) (name_of I.text other.now) }
+        ensures total { Total (λ (n : Name). I.lawful n.patch ≡ true) (name_order I.order) }
     {
-        let by_patch = self.patch.compare(&other.patch);
-        by_patch.then(self.index.cmp(&other.index))
+        self.cmp(other)
     }
 
+    // Whether the names are equal, told in texts.
     pub fn is(&self, other: &LineName<I>) -> bool
-        ensures { Decides result (name_of I.Identifier.text self.now ≡ name_of I.Identifier.text other.now) }
+        ensures { Decides result (name_of I.text self.now ≡ name_of I.text other.now) }
     {
-        self.compare(other).is_eq()
+        self == other
     }
 
     pub fn belongs_to(&self, patch: &I) -> bool
-        ensures { Decides result ((name_of I.Identifier.text self.now).patch ≡ I.Identifier.text patch.now) }
+        ensures { Decides result ((name_of I.text self.now).patch ≡ I.text patch.now) }
     {
-        self.patch.compare(patch).is_eq()
+        self.patch == *patch
     }
 }

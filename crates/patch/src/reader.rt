@@ -1,5 +1,6 @@
 // The reader of patch texts. Every line of a patch text ends with byte 10.
-ghost use Rattle.std.specs.Prelude.{◌≡◌, ℕ, ◌<◌, Bool, ◌↔◌, List, [], ◌∷◌, length, IfOk, IfErr, MatchOption, OnSome};
+ghost use Rattle.std.specs.Prelude.{◌≡◌, ℕ, ◌<◌, Bool, ◌↔◌, List, [], ◌∷◌, length, IfOk, IfErr, MatchOption, MatchResult, OnOk, OnSome};
+ghost use Rattle.std.specs.Iterator.{at_most};
 ghost use Rattle.graggle.specs.Texts.{Text, split};
 ghost use Rattle.graggle.specs.Kinds.{SameTexts};
 ghost use Rattle.graggle.specs.Entries.{Entry as MeantEntry};
@@ -7,16 +8,16 @@ ghost use Rattle.graggle.specs.Reading.{values, read};
 ghost use Rattle.graggle.specs.Claims.{Refused, Writes};
 ghost use Rattle.patch.specs.declared.refusals.Cause.TheVariants.{Nothing};
 ghost use Rattle.patch.specs.declared.refusals.Layer.TheVariants.{Reader};
-ghost use Rattle.patch.specs.Meant.{Answers, Front, Gives, LiesIn, MovesOn, Passes, Refuses, coming, entry_of, held, places_of, to_come};
-ghost use Rattle.patch.specs.Refusals.{LineFault, Tabled, ValueLine, apply_gives};
-ghost use Rattle.patch.specs.Refusals.Sort.{nothing};
+ghost use Rattle.patch.specs.Meant.{Amiss, Answers, Faults, Gives, GivesNext, Leaves, LiesIn, MovesOn, Refuses, coming, entry_of, held, places_of, reason_of, to_come};
+ghost use Rattle.patch.specs.Refusals.{number_of, Tabled, ValueLine, apply_gives};
 
 use crate::columns::Columns;
 use crate::entries::{Entry, MOST_ENTRIES};
 use crate::refusals::{Layer, Reason, Refusal};
-use crate::values::read_entry;
+use crate::values::{LineFault, read_entry};
 use kinds::content::Content;
 use kinds::identifier::Identifier;
+use std::marker::PhantomData;
 use texts::pieces::split_first;
 
 // A patch text without fault: its value lines, and the order of their columns. The entries are read off it one by one.
@@ -26,11 +27,12 @@ pub struct Patch<'t> {
     values: &'t [u8],
 }
 
-// The entries that are still to come.
+// The entries that are still to come, one by one.
 #[derive(Clone, Copy)]
-pub struct Entries<'t> {
+pub struct Entries<'t, I, C> {
     columns: Columns,
     rest: &'t [u8],
+    kinds: PhantomData<(I, C)>,
 }
 
 fn fault<I>(reason: Reason, line: usize) -> Refusal<I>
@@ -39,100 +41,86 @@ fn fault<I>(reason: Reason, line: usize) -> Refusal<I>
     Refusal::plain(reason, line, Layer::Reader)
 }
 
-// The entry of the value line at the front, and what stands behind that line; or the line's fault.
-fn read_front<'t, I: Identifier, C: Content>(
-    rest: &'t [u8],
-    columns: Columns,
-) -> Result<(Entry<I, C>, &'t [u8]), Reason>
-    ensures front { Front I.Identifier.lawful C.Content.lawful I.Identifier.text C.Content.text (places_of columns) rest.now result }
-    ensures shorter { IfOk result (λ p. length p.1.now < length rest.now) }
-    ensures fault { IfErr result (LineFault Reader nothing) }
-{
-    let Some((values, behind)) = split_first(rest, b'\n') else {
-        return Err(Reason::BadValueLine);
-    };
-    let entry = read_entry(values, columns)?;
-    Ok((entry, behind))
-}
-
-// What stands behind the value line at the front, or the fault of that line, the number of which is told.
-fn check_line<'t, I: Identifier, C: Content>(
-    rest: &'t [u8],
-    columns: Columns,
-    line: usize,
-) -> Result<&'t [u8], Refusal<I>>
-    requires { ValueLine line }
-    ensures passes { Passes I.Identifier.lawful C.Content.lawful (places_of columns) rest.now line result }
-    ensures shorter { IfOk result (λ b. length b.now < length rest.now) }
-    ensures fault { IfErr result (Tabled apply_gives) }
-{
-    match read_front::<I, C>(rest, columns) {
-        Ok((_, behind)) => Ok(behind),
-        Err(reason) => Err(fault(reason, line)),
+impl<'t, I: Identifier, C: Content> Entries<'t, I, C> {
+    // The entry of the value line at the front, and a step behind that line; or the line's fault, and no step.
+    fn read_front(&mut self) -> Result<Entry<I, C>, LineFault>
+        ensures front { MatchResult result (λ e. Leaves I.lawful C.lawful self.old self.new (entry_of I.text C.text e)) (λ f. Amiss I.lawful C.lawful (places_of self.old.columns) self.old.rest.now (number_of (reason_of f)) × (self.new ≡ self.old)) }
+        ensures shorter { OnOk result (length self.new.rest.now < length self.old.rest.now) }
+    {
+        let (values, behind) = split_first(self.rest, b'\n').ok_or(LineFault::BadValueLine)?;
+        let entry = read_entry(values, self.columns)?;
+        self.rest = behind;
+        Ok(entry)
     }
-}
 
-// The first fault of the value lines, which begin at line 2 of the text.
-fn check_values<I: Identifier, C: Content>(lines: &[u8], columns: Columns) -> Result<(), Refusal<I>>
-    ensures reads { Answers (λ _. coming I.Identifier.lawful C.Content.lawful (places_of columns) (split 10 lines.now)) (values I.Identifier.lawful C.Content.lawful (places_of columns) 0 (split 10 lines.now)) result }
-    ensures fault { IfErr result (Tabled apply_gives) }
-{
-    let mut rest = lines;
-    let mut count = 0;
-    while !rest.is_empty() {
-        if count == MOST_ENTRIES {
-            return Err(fault(Reason::BadCount, MOST_ENTRIES + 2));
+    // Steps behind the value line at the front, or tells its fault. The number of the line is told.
+    fn check_line(&mut self, line: usize) -> Result<(), Refusal<I>>
+        requires { ValueLine line }
+        ensures passes { MatchResult result (λ _. (e : MeantEntry) × Leaves I.lawful C.lawful self.old self.new e) (Faults I.lawful C.lawful self.old line) }
+        ensures fault { IfErr result (Tabled apply_gives) }
+    {
+        self.read_front()
+            .map_err(|wrong| fault(wrong.into(), line))?;
+        Ok(())
+    }
+
+    // The first fault of the value lines, which begin at line 2 of the text.
+    fn check_values(mut self) -> Result<(), Refusal<I>>
+        ensures reads { Answers (λ _. to_come I.lawful C.lawful self.entry) (values I.lawful C.lawful (places_of self.entry.columns) 0 (split 10 self.entry.rest.now)) result }
+        ensures fault { IfErr result (Tabled apply_gives) }
+    {
+        if self.rest.is_empty() {
+            return Err(fault(Reason::BadCount, 2));
         }
-        rest = check_line::<I, C>(rest, columns, count + 2)?;
-        count += 1;
+        for count in 0..MOST_ENTRIES {
+            self.check_line(count + 2)?;
+            if self.rest.is_empty() {
+                return Ok(());
+            }
+        }
+        Err(fault(Reason::BadCount, MOST_ENTRIES + 2))
     }
-    if count == 0 {
-        return Err(fault(Reason::BadCount, 2));
-    }
-    Ok(())
 }
 
 impl<'t> Patch<'t> {
     // The patch that a text writes, or the text's first fault.
     pub fn read<I: Identifier, C: Content>(text: &'t [u8]) -> Result<Patch<'t>, Refusal<I>>
-        ensures reads { Answers (held I.Identifier.lawful C.Content.lawful) (read I.Identifier.lawful C.Content.lawful text.now) result }
-        ensures means { (es : List MeantEntry) → Gives (held I.Identifier.lawful C.Content.lawful) result es ↔ Writes I.Identifier.lawful C.Content.lawful text.now es }
-        ensures refuses { (n p : ℕ) → Refuses result n p ↔ Refused I.Identifier.lawful C.Content.lawful text.now n p }
-        ensures alike { (ids contents : Text → Bool) → SameTexts I.Identifier.lawful ids → SameTexts C.Content.lawful contents → read I.Identifier.lawful C.Content.lawful text.now ≡ read ids contents text.now }
+        ensures reads { Answers (held I.lawful C.lawful) (read I.lawful C.lawful text.now) result }
+        ensures means { (es : List MeantEntry) → Gives (held I.lawful C.lawful) result es ↔ Writes I.lawful C.lawful text.now es }
+        ensures refuses { (n p : ℕ) → Refuses result n p ↔ Refused I.lawful C.lawful text.now n p }
+        ensures alike { (ids contents : Text → Bool) → SameTexts I.lawful ids → SameTexts C.lawful contents → read I.lawful C.lawful text.now ≡ read ids contents text.now }
         ensures lies { IfOk result (LiesIn text.now) }
         ensures fault { IfErr result (Tabled apply_gives) }
     {
-        let Some((heading, values)) = split_first(text, b'\n') else {
-            return Err(fault(Reason::BadHeading, 1));
-        };
-        let Some(columns) = Columns::read(heading) else {
-            return Err(fault(Reason::BadHeading, 1));
-        };
-        check_values::<I, C>(values, columns)?;
-        Ok(Patch { columns, values })
+        let (heading, values) = split_first(text, b'\n').ok_or(fault(Reason::BadHeading, 1))?;
+        let columns = Columns::read(heading).ok_or(fault(Reason::BadHeading, 1))?;
+        let patch = Patch { columns, values };
+        patch.entries::<I, C>().check_values()?;
+        Ok(patch)
     }
 
     // The entries in the order of the text.
-    pub fn entries(&self) -> Entries<'t>
-        ensures { result ≡ record { columns = self.now.columns; rest = self.now.values } }
+    pub fn entries<I, C>(&self) -> Entries<'t, I, C>
+        ensures columns { result.columns ≡ self.now.columns }
+        ensures rest { result.rest ≡ self.now.values }
     {
         Entries {
             columns: self.columns,
             rest: self.values,
+            kinds: PhantomData,
         }
     }
 }
 
-impl<'t> Entries<'t> {
+impl<'t, I: Identifier, C: Content> Iterator for Entries<'t, I, C> {
+    type Item = Entry<I, C>;
+
+    ghost next_gives = { GivesNext I.lawful C.lawful I.text C.text };
+
+    ghost remaining = { λ s. at_most (length s.rest.now) };
+
     // The next entry; nothing, and no step, where there is none.
-    pub fn next<I: Identifier, C: Content>(&mut self) -> Option<Entry<I, C>>
-        ensures gives { MatchOption result ((to_come I.Identifier.lawful C.Content.lawful self.old ≡ []) × (self.new ≡ self.old)) (λ e. to_come I.Identifier.lawful C.Content.lawful self.old ≡ entry_of I.Identifier.text C.Content.text e ∷ to_come I.Identifier.lawful C.Content.lawful self.new) }
-        ensures moves { OnSome result (MovesOn self.old self.new) }
-    {
-        let Ok((entry, behind)) = read_front::<I, C>(self.rest, self.columns) else {
-            return None;
-        };
-        self.rest = behind;
-        Some(entry)
+    fn next(&mut self) -> Option<Entry<I, C>> {
+        self.read_front().ok()
     }
 }

@@ -1,55 +1,40 @@
 // Why a call was refused.
-ghost use Rattle.std.specs.Prelude.{◌≡◌};
+ghost use Rattle.std.specs.Prelude.{◌≡◌, Some};
 ghost use Rattle.patch.specs.declared.refusals.Cause.TheVariants.{Nothing};
-ghost use Rattle.patch.specs.Refusals.{number_of};
+ghost use Rattle.patch.specs.Refusals.{layer_name, number_of};
 
 use crate::names::LineName;
+use std::fmt;
 
 // The fifteen reasons, in the order of their numbers.
 #[derive(Clone, Copy, PartialEq, Eq, Debug)]
 pub enum Reason {
-    UnlawfulIdentifier,
-    BadHeading,
-    BadValueLine,
-    UnlawfulContent,
-    BadCount,
-    AlreadyStands,
-    ForbiddenName,
-    RepeatedEntry,
-    UnknownPatch,
-    UnknownLine,
-    NoRoom,
-    DoesNotStand,
-    IsNamed,
-    ShortMemory,
-    BadScript,
+    UnlawfulIdentifier = 1,
+    BadHeading = 2,
+    BadValueLine = 3,
+    UnlawfulContent = 4,
+    BadCount = 5,
+    AlreadyStands = 6,
+    ForbiddenName = 7,
+    RepeatedEntry = 8,
+    UnknownPatch = 9,
+    UnknownLine = 10,
+    NoRoom = 11,
+    DoesNotStand = 12,
+    IsNamed = 13,
+    ShortMemory = 14,
+    BadScript = 15,
 }
 
 impl Reason {
     pub fn number(&self) -> usize
         ensures { result ≡ number_of self.now }
     {
-        match self {
-            Reason::UnlawfulIdentifier => 1,
-            Reason::BadHeading => 2,
-            Reason::BadValueLine => 3,
-            Reason::UnlawfulContent => 4,
-            Reason::BadCount => 5,
-            Reason::AlreadyStands => 6,
-            Reason::ForbiddenName => 7,
-            Reason::RepeatedEntry => 8,
-            Reason::UnknownPatch => 9,
-            Reason::UnknownLine => 10,
-            Reason::NoRoom => 11,
-            Reason::DoesNotStand => 12,
-            Reason::IsNamed => 13,
-            Reason::ShortMemory => 14,
-            Reason::BadScript => 15,
-        }
+        *self as usize
     }
 }
 
-// What a refusal points at.
+// What a refusal points at. The house rules name these three, so `Nothing` is one of them, and no cause is an `Option`.
 #[derive(Clone, Copy)]
 pub enum Cause<I> {
     Nothing,
@@ -67,10 +52,26 @@ pub enum Layer {
     Tool,
 }
 
+impl fmt::Display for Layer {
+    ghost output = { λ l. Some (layer_name l) };
+
+    fn fmt<W: fmt::Write>(&self, f: &mut fmt::Formatter<W>) -> fmt::Result {
+        f.write_str(match self {
+            Layer::Reader => "reader",
+            Layer::Volume => "volume",
+            Layer::Store => "store",
+            Layer::Page => "page",
+            Layer::Tool => "tool",
+        })
+    }
+}
+
+// The house rules make a refusal a plain record of these four. So which refusals a call gives is told by its contract, and not by
+// this type.
 #[derive(Clone, Copy)]
 pub struct Refusal<I> {
     pub reason: Reason,
-    // A line of a text, a list of the store, or the length that was needed; 0 for none.
+    // A line of a text, a list of the store, or the length that was needed; 0 for none. A number, as the house rules print it.
     pub place: usize,
     pub cause: Cause<I>,
     pub layer: Layer,

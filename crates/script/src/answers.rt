@@ -1,17 +1,10 @@
-// What the tool prints for an answer.
+// What the tool prints for a refusal.
 use kinds::identifier::Identifier;
+use page::sheet::Sheet;
 use patch::refusals::{Cause, Refusal};
-use texts::text::Text;
 
-// Room for `no`, a number, a place, the longest name and byte 10.
-pub type AnswerText = Text<64>;
-
-pub(crate) fn granted_text() -> &'static [u8] {
-    b"ok\n"
-}
-
-pub(crate) fn refused_text<I: Identifier>(refusal: &Refusal<I>) -> AnswerText {
-    let mut text = Text::new();
+pub(crate) fn refused_text<I: Identifier>(refusal: &Refusal<I>) -> Sheet {
+    let mut text = Sheet::new();
     text.append(b"no ");
     text.append_number(refusal.reason.number());
     text.push(b' ');

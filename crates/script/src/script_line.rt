@@ -5,31 +5,31 @@ pub enum Saying<'t> {
     Unapply(&'t [u8]),
     Page,
     End,
-    Other,
 }
 
 // A line that has its ending.
 #[derive(Clone, Copy)]
 pub struct ScriptLine<'t> {
     pub number: usize,
-    pub saying: Saying<'t>,
+    // Nothing where the line is none of the script's own.
+    pub saying: Option<Saying<'t>>,
     // The script from this line on, and behind it.
     pub from: &'t [u8],
     pub behind: &'t [u8],
 }
 
-pub(crate) fn read_saying<'t>(line: &'t [u8]) -> Saying<'t> {
-    if let Some(id) = line.strip_prefix(b"apply ") {
-        return Saying::Apply(id);
+impl<'t> Saying<'t> {
+    pub(crate) fn read(line: &'t [u8]) -> Option<Saying<'t>> {
+        if let Some(id) = line.strip_prefix(b"apply ") {
+            return Some(Saying::Apply(id));
+        }
+        if let Some(id) = line.strip_prefix(b"unapply ") {
+            return Some(Saying::Unapply(id));
+        }
+        match line {
+            b"page" => Some(Saying::Page),
+            b"end" => Some(Saying::End),
+            _ => None,
+        }
     }
-    if let Some(id) = line.strip_prefix(b"unapply ") {
-        return Saying::Unapply(id);
-    }
-    if line == b"page".as_slice() {
-        return Saying::Page;
-    }
-    if line == b"end".as_slice() {
-        return Saying::End;
-    }
-    Saying::Other
 }

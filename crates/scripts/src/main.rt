@@ -1,10 +1,7 @@
 // Runs the scripts of data/, each over an empty volume, and holds what it prints to the file beside it.
 #![tactic(auto)]
 
-use kinds::content::Content;
-use kinds::identifier::Identifier;
 use lending::shelf::Shelf;
-use page::sheet::Sheet;
 use script::machine::Script;
 use script::tool::perform;
 use std::alloc::{AllocError, Global};
@@ -14,25 +11,20 @@ use std::{env, fs};
 fn printed(heap: Global, bytes: &[u8]) -> Result<Vec<u8>, AllocError> {
     let mut shelf = Shelf::new();
     let mut volume = shelf.volume();
-    let mut script = Script::new(bytes);
-    let mut sheet = Sheet::new();
     let mut all = Vec::new(heap);
-    while let Some(command) = script.next() {
-        perform(&mut volume, command, &mut sheet);
-        all.extend_from_slice(sheet.as_slice())?;
+    for command in Script::new(bytes) {
+        let text = perform(&mut volume, command);
+        all.extend_from_slice(text.as_slice())?;
     }
     Ok(all)
 }
 
 // How many bytes two texts have in common at their fronts.
 fn common(one: &[u8], other: &[u8]) -> usize {
-    let end = one.len().min(other.len());
-    for at in 0..end {
-        if one[at] != other[at] {
-            return at;
-        }
-    }
-    end
+    one.iter()
+        .zip(other)
+        .take_while(|(byte, beside)| byte == beside)
+        .count()
 }
 
 fn run_case(rt: &HostRuntime, name: &str) -> anyhow::Result<()> {

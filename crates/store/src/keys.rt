@@ -3,16 +3,12 @@ use crate::records::{Line, Link, Strike};
 use kinds::content::Content;
 use kinds::identifier::Identifier;
 use patch::names::LineName;
-use std::cmp::Ordering;
 
 // A record that stands in a list by its key: no two records of a list have equal keys.
 pub trait Record: Copy {
-    type Key: Copy;
+    type Key: Copy + Ord;
 
     fn key(&self) -> Self::Key;
-
-    // How the record's key stands to another, under a total order of keys.
-    fn compare(&self, key: &Self::Key) -> Ordering;
 }
 
 // A record that goes when its owner is dropped.
@@ -26,10 +22,6 @@ impl<I: Identifier, C: Content> Record for Line<I, C> {
 
     fn key(&self) -> LineName<I> {
         self.name
-    }
-
-    fn compare(&self, key: &LineName<I>) -> Ordering {
-        self.name.compare(key)
     }
 }
 
@@ -47,36 +39,25 @@ impl<I: Identifier> Record for Link<I> {
     fn key(&self) -> Link<I> {
         *self
     }
-
-    fn compare(&self, key: &Link<I>) -> Ordering {
-        let by_ends = self.from.compare(&key.from).then(self.to.compare(&key.to));
-        by_ends.then(self.owner.compare(&key.owner))
-    }
 }
 
 impl<I: Identifier> Owned<I> for Link<I> {
     fn is_owned_by(&self, owner: &I) -> bool {
-        self.owner.compare(owner).is_eq()
+        self.owner == *owner
     }
 }
 
-// Strikes stand by name and owner.
+// Strikes stand by name and owner. Links and strikes are their own keys, in impls of their own: one for both would need one more trait.
 impl<I: Identifier> Record for Strike<I> {
     type Key = Strike<I>;
 
     fn key(&self) -> Strike<I> {
         *self
     }
-
-    fn compare(&self, key: &Strike<I>) -> Ordering {
-        self.line
-            .compare(&key.line)
-            .then(self.owner.compare(&key.owner))
-    }
 }
 
 impl<I: Identifier> Owned<I> for Strike<I> {
     fn is_owned_by(&self, owner: &I) -> bool {
-        self.owner.compare(owner).is_eq()
+        self.owner == *owner
     }
 }

@@ -3,10 +3,12 @@ ghost use Rattle.std.specs.Prelude.{◌≡◌, ℕ, false, ◌&&◌, ◌||◌, �
 ghost use Rattle.store.specs.Bits.{bit, spot, linked};
 
 use crate::row::Row;
+use crate::sizes::MOST_LINES;
+use std::array;
 
 #[derive(Clone, Copy)]
 pub struct Rows {
-    rows: [Row; 256],
+    rows: [Row; MOST_LINES],
 }
 
 impl Rows {
@@ -14,7 +16,7 @@ impl Rows {
         ensures { (i j : ℕ) → spot result i j ≡ false }
     {
         Rows {
-            rows: [Row::empty(); 256],
+            rows: [Row::empty(); MOST_LINES],
         }
     }
 
@@ -22,28 +24,21 @@ impl Rows {
     pub fn row(&self, rank: usize) -> Row
         ensures { (k : ℕ) → bit result k ≡ spot self.now rank k }
     {
-        if rank < 256 {
-            self.rows[rank]
-        } else {
-            Row::empty()
-        }
+        self.rows.get(rank).copied().unwrap_or(Row::empty())
     }
 
     pub fn has(&self, from: usize, to: usize) -> bool
         ensures { result ≡ spot self.now from to }
     {
-        if from < 256 {
-            self.rows[from].has(to)
-        } else {
-            false
-        }
+        self.rows.get(from).is_some_and(|row| row.has(to))
     }
 
     // The line at `from` reaches the line at `to`.
     pub fn add(&mut self, from: usize, to: usize)
         ensures { (i j : ℕ) → spot self.new i j ≡ (spot self.old i j || ((nat_lt from 256 && i == from) && (nat_lt to 256 && j == to))) }
     {
-        if from < 256 {
+        // An index, since after a write through `get_mut` the other rows are not known.
+        if from < MOST_LINES {
             self.rows[from].add(to);
         }
     }
@@ -54,9 +49,9 @@ impl Rows {
     {
         let mut gained = self.row(to);
         gained.add(to);
-        for rank in 0..256 {
-            if rank == from || self.has(rank, from) {
-                self.rows[rank].join(&gained);
+        for (rank, row) in self.rows.iter_mut().enumerate() {
+            if rank == from || row.has(from) {
+                row.join(&gained);
             }
         }
     }
@@ -66,20 +61,16 @@ impl Rows {
         ensures { (i j : ℕ) → spot result i j ≡ spot self.now j i }
     {
         let mut turned = Rows::empty();
-        for from in 0..256 {
-            turned.add_column(from, &self.rows[from]);
+        for (to, row) in turned.rows.iter_mut().enumerate() {
+            *row = self.column(to);
         }
         turned
     }
 
-    // Each rank of the row reaches `to`.
-    fn add_column(&mut self, to: usize, row: &Row)
-        ensures { (i j : ℕ) → spot self.new i j ≡ (spot self.old i j || (bit row.now i && (nat_lt to 256 && j == to))) }
+    // The ranks of the lines that reach the line at `to`.
+    fn column(&self, to: usize) -> Row
+        ensures { (k : ℕ) → bit result k ≡ spot self.now k to }
     {
-        for from in 0..256 {
-            if row.has(from) {
-                self.add(from, to);
-            }
-        }
+        Row::from_fn(|from| self.has(from, to))
     }
 }

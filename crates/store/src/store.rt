@@ -15,6 +15,9 @@ pub enum Unadded {
 
 // A store holds three lists without repeats, each in ascending order: lines by name; links by first name, second name
 // and owner; strikes by name and owner. Its capacities never change. A rank counts from 0.
+// Each list has calls of its own, and not one call for every kind of record: a store would implement one more trait three times,
+// and who asks would write the record's type where the name of the call says it. A caller goes over a list by its ranks: an iterator
+// for each list would be a type of its own.
 pub trait Store {
     type Id: Identifier;
 
@@ -46,13 +49,9 @@ pub trait Store {
     // What each line reaches, by links whose ends are both in the lines list.
     fn rows(&self) -> Rows {
         let mut rows = Rows::empty();
-        for at in 0..self.counts().links {
-            if let Some(link) = self.link(at) {
-                if let Some(from) = self.rank(&link.from) {
-                    if let Some(to) = self.rank(&link.to) {
-                        rows.join(from, to);
-                    }
-                }
+        for link in (0..self.counts().links).filter_map(|at| self.link(at)) {
+            if let (Some(from), Some(to)) = (self.rank(&link.from), self.rank(&link.to)) {
+                rows.join(from, to);
             }
         }
         rows

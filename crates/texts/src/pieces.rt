@@ -8,12 +8,9 @@ pub fn find(text: &[u8], mark: u8) -> usize
     ensures none { result ≡ length text.now → split mark text.now ≡ text.now ∷ [] }
     ensures first { result < length text.now → split mark text.now ≡ take result text.now ∷ split mark (drop (result + 1) text.now) }
 {
-    for (at, byte) in text.iter().enumerate() {
-        if *byte == mark {
-            return at;
-        }
-    }
-    text.len()
+    text.iter()
+        .position(|byte| *byte == mark)
+        .unwrap_or(text.len())
 }
 
 // How many of the bytes are `mark`: one less than there are pieces.
@@ -21,13 +18,7 @@ pub fn marks(text: &[u8], mark: u8) -> usize
     ensures within { result ≤ length text.now }
     ensures pieces { result + 1 ≡ length (split mark text.now) }
 {
-    let mut count = 0;
-    for byte in text {
-        if *byte == mark {
-            count += 1;
-        }
-    }
-    count
+    text.iter().filter(|byte| **byte == mark).count()
 }
 
 // The text before the first `mark` and the text behind it; nothing where there is no mark.
@@ -35,25 +26,14 @@ pub fn split_first(text: &[u8], mark: u8) -> Option<(&[u8], &[u8])>
     ensures parts { MatchOption result (split mark text.now ≡ text.now ∷ []) (λ p. split mark text.now ≡ p.0.now ∷ split mark p.1.now) }
     ensures lengths { IfSome result (λ p. length p.0.now + length p.1.now + 1 ≡ length text.now) }
 {
-    let end = find(text, mark);
-    if end < text.len() {
-        Some((&text[0..end], &text[end + 1..]))
-    } else {
-        None
-    }
+    let (before, rest) = text.split_at(find(text, mark));
+    let (_, behind) = rest.split_first()?;
+    Some((before, behind))
 }
 
 // The piece at a place, blank where there is none.
 pub fn piece(text: &[u8], mark: u8, place: usize) -> &[u8]
     ensures { result.now ≡ slice_index_or (split mark text.now) place [] }
 {
-    let mut rest = text;
-    for _ in 0..place {
-        rest = match split_first(rest, mark) {
-            Some((_, behind)) => behind,
-            None => &[],
-        };
-    }
-    let end = find(rest, mark);
-    &rest[0..end]
+    text.split(|byte| *byte == mark).nth(place).unwrap_or(&[])
 }

@@ -1,5 +1,5 @@
 // The records of a patch go into the store.
-use patch::entries::{Entry, MOST_ENTRIES};
+use patch::entries::Entry;
 use patch::reader::Patch;
 use store::records::{Line, Link, Strike};
 use store::store::Store;
@@ -24,11 +24,7 @@ fn add_entry<S: Store>(store: &mut S, patch: &S::Id, entry: &Entry<S::Id, S::Con
 }
 
 pub(crate) fn add_entries<S: Store>(store: &mut S, patch: &S::Id, text: &Patch) {
-    let mut entries = text.entries();
-    for _ in 0..MOST_ENTRIES {
-        let Some(entry) = entries.next() else {
-            return;
-        };
+    for entry in text.entries::<S::Id, S::Content>() {
         add_entry(store, patch, &entry);
     }
 }

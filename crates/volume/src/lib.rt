@@ -3,7 +3,8 @@
 
 mod adding;
 mod applying;
-mod entry_faults;
+mod entries;
+mod faults;
 mod standing;
 mod unapplying;
 pub mod volume;

@@ -3,39 +3,12 @@
 use store::keys::Owned;
 use store::store::Store;
 
-fn has_line<S: Store>(store: &S, patch: &S::Id) -> bool {
-    for rank in 0..store.counts().lines {
-        if let Some(line) = store.line(rank) {
-            if line.is_owned_by(patch) {
-                return true;
-            }
-        }
-    }
-    false
-}
-
-fn owns_link<S: Store>(store: &S, patch: &S::Id) -> bool {
-    for rank in 0..store.counts().links {
-        if let Some(link) = store.link(rank) {
-            if link.is_owned_by(patch) {
-                return true;
-            }
-        }
-    }
-    false
-}
-
-fn owns_strike<S: Store>(store: &S, patch: &S::Id) -> bool {
-    for rank in 0..store.counts().strikes {
-        if let Some(strike) = store.strike(rank) {
-            if strike.is_owned_by(patch) {
-                return true;
-            }
-        }
-    }
-    false
-}
-
 pub(crate) fn stands<S: Store>(store: &S, patch: &S::Id) -> bool {
-    has_line(store, patch) || owns_link(store, patch) || owns_strike(store, patch)
+    let counts = store.counts();
+    let mut lines = (0..counts.lines).filter_map(|rank| store.line(rank));
+    let mut links = (0..counts.links).filter_map(|rank| store.link(rank));
+    let mut strikes = (0..counts.strikes).filter_map(|rank| store.strike(rank));
+    lines.any(|line| line.is_owned_by(patch))
+        || links.any(|link| link.is_owned_by(patch))
+        || strikes.any(|strike| strike.is_owned_by(patch))
 }

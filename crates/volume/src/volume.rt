@@ -2,8 +2,8 @@ ghost use Rattle.std.specs.Prelude.{◌≡◌, ◌<◌, ◌≤◌, length, drop,
 ghost use Rattle.patch.specs.Refusals.{Tabled, apply_gives, page_gives, unapply_gives};
 
 use crate::adding::add_entries;
-use crate::applying::apply_fault;
-use crate::unapplying::unapply_fault;
+use crate::applying::Application;
+use crate::unapplying::check_unapply;
 use kinds::identifier::Identifier;
 use page::page::write_page;
 use patch::reader::Patch;
@@ -20,10 +20,7 @@ fn read_identifier<I: Identifier>(text: &[u8]) -> Result<I, Refusal<I>>
     ensures apply { IfErr result (Tabled apply_gives) }
     ensures unapply { IfErr result (Tabled unapply_gives) }
 {
-    match I::read(text) {
-        Some(patch) => Ok(patch),
-        None => Err(Refusal::plain(Reason::UnlawfulIdentifier, 0, Layer::Reader)),
-    }
+    I::read(text).ok_or(Refusal::plain(Reason::UnlawfulIdentifier, 0, Layer::Reader))
 }
 
 impl<S: Store> Volume<S> {
@@ -40,9 +37,7 @@ impl<S: Store> Volume<S> {
     {
         let patch = read_identifier(id)?;
         let text = Patch::read::<S::Id, S::Content>(text)?;
-        if let Some(fault) = apply_fault(&self.store, &patch, &text) {
-            return Err(fault);
-        }
+        Application::new(&self.store, patch, text).check()?;
         add_entries(&mut self.store, &patch, &text);
         Ok(())
     }
@@ -53,15 +48,13 @@ impl<S: Store> Volume<S> {
         ensures same { OnErr result (self.new ≡ self.old) }
     {
         let patch = read_identifier(id)?;
-        if let Some(fault) = unapply_fault(&self.store, &patch) {
-            return Err(fault);
-        }
+        check_unapply(&self.store, &patch)?;
         let _ = self.store.drop_patch(&patch);
         Ok(())
     }
 
     // Writes the page to the front of the memory and answers its length; bytes after it keep their values. Memory that is
-    // too short is refused and left as it was.
+    // too short is refused and left as it was. The contract of `write_page`, told again, since this is the call that users see.
     pub fn page(&self, memory: &mut [u8]) -> Result<usize, Refusal<S::Id>>
         ensures bound { IfOk result (λ n. n ≤ 28698) }
         ensures fits { IfOk result (λ n. n ≤ length memory.old) }

@@ -7,23 +7,21 @@ mod patches;
 mod sheets;
 mod words;
 
-use houses::House;
+use days::Circle;
 use lending::shelf::Shelf;
 use std::io;
 
 fn main(rt: HostRuntime) -> io::Result<()> {
-    let mut first = Shelf::new();
-    let mut second = Shelf::new();
-    let mut third = Shelf::new();
-    let mut ash = House::new("Ash Lane", &mut first);
-    let mut bell = House::new("Bell Street", &mut second);
-    let mut church = House::new("Church Hill", &mut third);
-    days::explain(&rt)?;
-    days::before(&rt, &mut ash, &mut bell, &mut church)?;
-    days::monday(&rt, &mut ash)?;
-    days::tuesday(&rt, &mut bell)?;
-    let wednesday = days::wednesday(&rt, &mut church)?;
-    days::thursday(&rt, &mut church)?;
-    days::friday(&rt, &mut church, &wednesday)?;
-    days::saturday(&rt, &mut ash, &mut bell, &mut church)
+    let mut ash = Shelf::new();
+    let mut bell = Shelf::new();
+    let mut church = Shelf::new();
+    let mut circle = Circle::new(&rt, &mut ash, &mut bell, &mut church);
+    circle.explain()?;
+    circle.before()?;
+    circle.monday()?;
+    circle.tuesday()?;
+    let wednesday = circle.wednesday()?;
+    circle.thursday()?;
+    circle.friday(&wednesday)?;
+    circle.saturday()
 }

@@ -11,9 +11,7 @@ pub struct LoanPatch {
 impl LoanPatch {
     // The lines of the patch text, indented and numbered: a refusal tells the number of a line.
     pub(crate) fn print(&self, rt: &HostRuntime) -> io::Result<()> {
-        let mut number: usize = 0;
-        for line in as_text(self.text).lines() {
-            number = number.saturating_add(1);
+        for (number, line) in (1usize..).zip(as_text(self.text).lines()) {
             println!(rt; "    {number:>2}  {line}")?;
         }
         Ok(())

@@ -6,13 +6,10 @@ use texts::pieces::piece;
 
 // How many lines of the page stand in a fork. The kind of a block is the second piece of a line.
 fn forked(sheet: &Sheet) -> usize {
-    let mut count: usize = 0;
-    for line in as_text(sheet.as_slice()).lines() {
-        if piece(line.as_bytes(), b';', 1) == b"fork".as_slice() {
-            count = count.saturating_add(1);
-        }
-    }
-    count
+    as_text(sheet.as_slice())
+        .lines()
+        .filter(|line| piece(line.as_bytes(), b';', 1) == b"fork".as_slice())
+        .count()
 }
 
 // The lines of the page, and whether there is a fork.
@@ -41,9 +38,10 @@ pub(crate) fn print_comparison(
     one: &Sheet,
     other: &Sheet,
 ) -> io::Result<()> {
-    if one.as_slice() == other.as_slice() {
-        println!(rt; "{which}: the same, byte for byte.")
+    let verdict = if one == other {
+        "the same, byte for byte"
     } else {
-        println!(rt; "{which}: not the same.")
-    }
+        "not the same"
+    };
+    println!(rt; "{which}: {verdict}.")
 }

@@ -1,15 +1,12 @@
 // Refusals in plain words.
 use kinds::branch::BranchNumber;
-use kinds::identifier::Identifier;
+use kinds::written::Written;
 use patch::refusals::{Cause, Reason, Refusal};
 use std::fmt;
 
 // Bytes as text. Names and pages are always text.
 pub(crate) fn as_text(bytes: &[u8]) -> &str {
-    match std::str::from_utf8(bytes) {
-        Ok(text) => text,
-        Err(_) => "(unreadable)",
-    }
+    std::str::from_utf8(bytes).unwrap_or("(unreadable)")
 }
 
 // What a refusal points at.

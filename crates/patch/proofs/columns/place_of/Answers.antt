@@ -1,24 +1,15 @@
-use Rattle.std.proofs.Common.{sym, ◌∙◌, arith}
-use Rattle.std.proofs.lemmas.Slice.Eq.{slice_eq-Decides}
-use Rattle.std.proofs.lemmas.Bool.Decides.{not_from_Decides, Decides-eqb}
-use Rattle.graggle.specs.Texts.{split}
-use Rattle.patch.proofs.HeadSteps.{sought_start, seek_more, seek_here, seek_none}
+use Rattle.std.proofs.Common.{◌≡◌, MatchOption, false, true, sym, rules, tests, subst, eqb}
+use Rattle.std.specs.Str.{bytes_eq}
+use Rattle.std.proofs.lemmas.Iterator.Search.{position_from_yields_List}
+use Rattle.std.proofs.lemmas.Iterator.Splits.{YieldsList-from_slice_split}
+use Rattle.graggle.specs.Texts.{split, has, place}
+use Rattle.patch.proofs.HeadSteps.{found_by}
 use Rattle.patch.proofs.columns.place_of.Goals as goal
 
-pub loop-at-init : goal.loop-at-init
-loop-at-init c _ = sought_start c.args.name.now (split 59 c.args.heading.now)
-
-pub loop-at-preserved : goal.loop-at-preserved
-loop-at-preserved c four =
-    let hs = split 59 c.args.heading.now in
-    let d = slice_eq-Decides Decides-eqb c.piece.result.now c.args.name.now c.eq.result c.eq.ensures in
-    seek_more c.args.name.now hs c.loop-at.at (omega (arith, four)) (λ e. not_from_Decides c.eq.result d c.if-eq.false (c.piece.ensures ∙ e)) (c.loop-at.invariant four)
-
-pub returns-then-eq : goal.returns-then-eq
-returns-then-eq c four =
-    let hs = split 59 c.args.heading.now in
-    let d = slice_eq-Decides Decides-eqb c.piece.result.now c.args.name.now c.eq.result c.eq.ensures in
-    seek_here c.args.name.now hs c.loop-at.at (omega (arith, four)) (sym c.piece.ensures ∙ d.0 c.if-eq.true) (c.loop-at.invariant four)
-
 pub returns : goal.returns
-returns c four = seek_none c.args.name.now (split 59 c.args.heading.now) c.loop-at.at (omega (arith, four)) (c.loop-at.invariant four)
+returns c =
+    let t = c.args.heading.now in
+    let n = c.args.name.now in
+    let s = c.split.ensures in
+    let e = position_from_yields_List (λ p. bytes_eq p n) _ _ c.position.result c.position.ensures.ran (YieldsList-from_slice_split _ (λ x. eqb x 59) t s.rest s.done s.closure (λ x b q k. search (rules, tests))) (λ x b q k. search (rules, tests)) in
+    subst (λ o. MatchOption o (has n (split 59 t) ≡ false) (λ i. (has n (split 59 t) ≡ true) × (i ≡ place n (split 59 t)))) (sym e) (found_by n (split 59 t))

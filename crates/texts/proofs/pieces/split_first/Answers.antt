@@ -1,11 +1,10 @@
-use Rattle.std.proofs.Common.{arith, length-drop, length-take}
-use Rattle.texts.proofs.PieceSteps.{split_here}
+use Rattle.std.proofs.Common.{◌≡◌, ◌+◌, ◌∷◌, drop, sym, ap, ◌∙◌, arith}
+use Rattle.std.proofs.lemmas.List.{drop-drop}
+use Rattle.graggle.specs.Texts.{split}
 use Rattle.texts.proofs.pieces.split_first.Goals as goal
 
-pub returns-then-end-text : goal.returns-then-end-text
-returns-then-end-text c =
-    let e = c.find-end.ensures in
-    record {
-      parts = split_here c.args.mark c.args.text.now c.find-end.result e.within e.none e.first c.if-end-text.true;
-      lengths = simp (length-take, length-drop) (omega arith);
-    }
+pub returns-clause-parts : goal.returns-clause-parts
+returns-clause-parts c =
+    let e = c.split_at.ensures in
+    let behind : drop (c.find.result + 1) c.args.text.now ≡ c.in_ok-behind.behind.now = sym (drop-drop 1 c.find.result c.args.text.now) ∙ ap (drop 1) (sym e.back ∙ c.in_ok-behind.ensures.cases.0) in
+    c.find.ensures.first (omega (arith, c.in_ok-behind.ensures.cases.1)) ∙ (λ i. sym e.front i ∷ split c.args.mark (behind i))

@@ -1,14 +1,6 @@
-use Rattle.std.proofs.Common.{◌&&◌, get_or, refl, arith}
-use lib.Bits.{bit_and}
-use Rattle.store.proofs.Words.{digit_and, mixed_more, mixed_all}
+use Rattle.std.proofs.Common.{rules}
+use Rattle.store.proofs.Words.{and_ranks}
 use Rattle.store.proofs.row.Row.keep.Goals as goal
 
-pub loop-i-preserved : goal.loop-i-preserved
-loop-i-preserved c =
-    let i = c.loop-i.i in
-    let word = get_or c.loop-i.self.words i 0 in
-    let other = get_or c.args.other.now.words i 0 in
-    mixed_more ◌&&◌ c.loop-i.self.words c.args.self.now.words c.args.other.now.words i (bit_and word other) (omega arith) (λ k h. digit_and word other k) c.loop-i.invariant
-
 pub returns : goal.returns
-returns c = mixed_all ◌&&◌ c.loop-i.self.words c.args.self.now.words c.args.other.now.words refl c.loop-i.i c.loop-i-test.false c.loop-i.invariant
+returns c = and_ranks c.combined.result.words c.args.self.now.words c.args.other.now.words (λ j h. let e = c.combined.ensures.words j h in search rules)

@@ -1,37 +1,37 @@
-use Rattle.std.proofs.Common.{◌≡◌, ℕ, ◌+◌, Bool, true, ◌&&◌, ◌||◌, eqb, ltb, set, sym, ap, ◌∙◌, subst, arith}
-use Rattle.std.proofs.lemmas.Bool.{eq-eqb, ne_eqb, or_left, or_right, or_from}
-use Rattle.store.specs.Bits.{bit, spot}
-use Rattle.store.proofs.Tables.{GainsUntil, row_gains, gains_none, gains_here, gains_hit, gains_miss}
+use Rattle.std.proofs.Common.{◌≡◌, ℕ, ◌+◌, Bool, true, false, ◌||◌, eqb, get_or, sym, subst, arith}
+use Rattle.std.proofs.lemmas.Bool.Decides.{nat_tests}
+use Rattle.store.specs.Bits.{bit, no_row, spot}
+use Rattle.store.proofs.Tables.{GainsUntil, gains_more, gains_all, row_here}
 use Rattle.store.proofs.rows.Rows.join.Goals as goal
 use Rattle.store.proofs.rows.Rows.join.Goals.{then-rank-from, then-rank-from-via-then-rank-from, then-rank-from-via-else-rank-from+then-has, else-rank-from+else-has}
 
-pub loop-rank-init : goal.loop-rank-init
-loop-rank-init c = gains_none (spot c.args.self.now) (λ i. eqb i c.args.from || spot c.args.self.now i c.args.from) (bit c.add.new.self)
-
 pub loop-rank-preserved : goal.loop-rank-preserved
 loop-rank-preserved c =
+    let old = c.args.self.now.rows in
     let m = spot c.args.self.now in
     let from = c.args.from in
     let p : ℕ → Bool = λ i. eqb i from || m i from in
     let g = bit c.add.new.self in
     let x = c.loop-rank.rank in
-    let t = spot c.loop-rank.self in
-    let before : m x from ≡ t x from = sym (gains_here m p g t x c.loop-rank.invariant from) in
+    let rows = c.loop-rank.row-items in
+    let inv = c.loop-rank.invariant in
+    let row = get_or rows x no_row in
+    let before : m x from ≡ bit row from = row_here old p g x rows c.loop-rank-test.true inv from in
     elim c.if-rank-from.branch [
       | then-rank-from w ↦
           let picked : p x ≡ true = elim w.then-rank-from.branch [
-            | then-rank-from-via-then-rank-from v ↦ or_left (eqb x from) (m x from) (eq-eqb x from v.if-rank-from.true)
-            | then-rank-from-via-else-rank-from+then-has v ↦ or_right (eqb x from) (m x from) (before ∙ sym v.has.ensures ∙ v.if-has.true)
+            | then-rank-from-via-then-rank-from v ↦ grind (arith, nat_tests, v.if-rank-from.true)
+            | then-rank-from-via-else-rank-from+then-has v ↦ grind (arith, nat_tests, v.has.ensures, v.if-has.true)
           ] in
-          subst (λ s. GainsUntil m p g (x + 1) (spot s)) (sym w.self-is) (gains_hit m p g t x c.loop-rank.invariant (spot (record { rows = set c.loop-rank.self.rows x w.join.new.self })) picked (row_gains c.loop-rank.self.rows x w.join.new.self g c.loop-rank-test.true (omega arith) w.join.ensures))
+          subst (GainsUntil old p g (x + 1)) (sym w.row-items-is) (gains_more old p g x rows w.join.new.self c.loop-rank-test.true inv (λ j. grind (arith, nat_tests, w.join.ensures j, picked)))
       | else-rank-from+else-has w ↦
-          subst (λ s. GainsUntil m p g (x + 1) (spot s)) (sym w.self-is) (gains_miss m p g t x c.loop-rank.invariant (or_from (eqb x from) (m x from) (ne_eqb x from w.if-rank-from.false) (before ∙ sym w.has.ensures ∙ w.if-has.false)))
+          let passed : p x ≡ false = grind (arith, nat_tests, w.if-rank-from.false, w.has.ensures, w.if-has.false) in
+          subst (GainsUntil old p g (x + 1)) (sym w.row-items-is) (gains_more old p g x rows _ c.loop-rank-test.true inv (λ j. grind (arith, nat_tests, passed)))
     ]
 
 pub returns : goal.returns
 returns c i j =
-    let m = spot c.args.self.now in
+    let old = c.args.self.now in
     let from = c.args.from in
-    let to = c.args.to in
-    let end : c.loop-rank.rank ≡ 256 = omega arith in
-    c.loop-rank.invariant i j ∙ ap (λ x. m i j || ((ltb i x && (eqb i from || m i from)) && bit c.add.new.self j)) end ∙ ap (λ b. m i j || ((ltb i 256 && (eqb i from || m i from)) && b)) (c.add.ensures j ∙ ap (λ b. b || (ltb to 256 && eqb j to)) (c.row-gained.ensures j))
+    let rows = gains_all old.rows (λ i. eqb i from || spot old i from) (bit c.add.new.self) c.loop-rank.rank c.loop-rank.row-items (omega arith) c.loop-rank.invariant i j in
+    simp (← c.row-gained.ensures j, ← c.add.ensures j) rows

@@ -4,4 +4,4 @@ use Rattle.store.proofs.Tables.{GainsUntil}
 use Rattle.store.proofs.rows.Rows.join.Given as goal
 
 abbrev pub invariant-loop-rank : goal.invariant-loop-rank
-invariant-loop-rank l = GainsUntil (spot l.initial.self) (λ i. eqb i l.from || spot l.initial.self i l.from) (bit l.gained) l.rank (spot l.self)
+invariant-loop-rank l = GainsUntil l.fn.self.rows (λ i. eqb i l.from || spot l.fn.self i l.from) (bit l.gained) l.rank l.row-items

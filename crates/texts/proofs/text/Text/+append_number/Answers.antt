@@ -1,21 +1,19 @@
-use Rattle.std.proofs.Common.{ℕ, ◌+◌, ◌/◌, ◌%◌, [], ◌∷◌, decimal, sym, ap, ◌∙◌, arith}
+use Rattle.std.proofs.Common.{ℕ, ◌+◌, ◌/◌, ◌%◌, [], ◌∷◌, ◌++◌, take, decimal, sym, ap, ◌∙◌, arith}
 use Rattle.std.proofs.lemmas.Fmt.{decimal_digit, decimal_step}
-use Rattle.texts.specs.Shown.{filled, pushed, shown}
 use Rattle.texts.proofs.Filling.{filled_more}
 use Rattle.texts.proofs.text.Text.+append_number.Goals as goal
 
 pub returns-then-number-lt10 : goal.returns-then-number-lt10
 returns-then-number-lt10 g t c =
     let n : ℕ = c.args.number in
-    let start = shown c.args.self.now in
-    c.push.ensures ∙ ap (filled g.row.N start) (sym (decimal_digit n c.if-number-lt10.true))
+    c.push.ensures ∙ ap (λ ds. take g.row.N (c.args.self.now ++ ds)) (sym (decimal_digit n c.if-number-lt10.true))
 
 pub returns : goal.returns
 returns g t c =
     let n : ℕ = c.args.number in
-    let start = shown c.args.self.now in
+    let start = c.args.self.now in
     let last-digit = (48 + n % 10) ∷ [] in
     c.push-2.ensures
-    ∙ ap (λ ys. pushed g.row.N ys (48 + n % 10)) c.append_number.ensures
-    ∙ sym (filled_more g.row.N start (decimal (n / 10)) last-digit)
-    ∙ ap (filled g.row.N start) (sym (decimal_step n c.if-number-lt10.false (omega arith)))
+    ∙ ap (λ ys. take g.row.N (ys ++ last-digit)) c.append_number.ensures
+    ∙ filled_more g.row.N start (decimal (n / 10)) last-digit
+    ∙ ap (λ ds. take g.row.N (start ++ ds)) (sym (decimal_step n c.if-number-lt10.false (omega arith)))

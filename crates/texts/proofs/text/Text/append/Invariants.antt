@@ -1,7 +1,8 @@
-use Rattle.std.proofs.Common.{◌≡◌, drop}
-use Rattle.texts.specs.Shown.{filled, shown}
+use Rattle.std.proofs.Common.{◌≡◌, ◌≤◌, ◌++◌, length, take, drop}
 use Rattle.texts.proofs.text.Text.append.Given as goal
 
 abbrev pub invariant-loop-byte : goal.invariant-loop-byte
-invariant-loop-byte g l =
-    filled g.row.N (shown l.self) (drop l.byte-index l.bytes) ≡ filled g.row.N (shown l.initial.self) l.bytes
+invariant-loop-byte g l = record {
+  within : length l.self ≤ g.row.N;
+  left : take g.row.N (l.self ++ drop l.byte-index l.bytes) ≡ take g.row.N (l.initial.self ++ l.bytes);
+}
