@@ -1,7 +1,7 @@
 // An ordered table over lent memory, for any record kind with a total order of keys.
 ghost use Rattle.std.specs.Prelude.{◌≤◌, length};
 
-use crate::slots::{keep_others, open};
+use crate::slots::{keep_others, open, seek};
 use store::keys::{Owned, Record};
 use store::store::Unadded;
 
@@ -61,9 +61,7 @@ impl<'m, R: Record> Table<'m, R> {
 
     // The rank of the record with this key.
     pub fn rank(&self, key: &R::Key) -> Option<usize> {
-        self.all()
-            .binary_search_by_key(key, |record| record.key())
-            .ok()
+        seek(self.all(), key).ok()
     }
 
     // Adds the record at its place, unless its key is there or the table is full.
@@ -72,10 +70,7 @@ impl<'m, R: Record> Table<'m, R> {
         ensures more { OnOk result (length (items self.new) ≡ length (items self.old) + 1) }
         ensures same { OnErr result (items self.new ≡ items self.old) }
     {
-        let found = self
-            .all()
-            .binary_search_by_key(&added.key(), |record| record.key());
-        let Err(at) = found else {
+        let Err(at) = seek(self.all(), &added.key()) else {
             return Err(Unadded::Present);
         };
         let count = self.len();

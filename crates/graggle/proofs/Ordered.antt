@@ -23,7 +23,7 @@ pub bytes_total : (P : Text → Type 0) → Total P by_bytes
 bytes_total = whole nat_list_cmp_total exact_bytes
 
 -- both answers are Equal
-then_equal : (a b : Ordering) → ordering_then a b ≡ Equal → (a ≡ Equal) × (b ≡ Equal)
+pub then_equal : (a b : Ordering) → ordering_then a b ≡ Equal → (a ≡ Equal) × (b ≡ Equal)
 then_equal Less b e = cc
 then_equal Equal b e = (refl, e)
 then_equal Greater b e = cc

@@ -37,7 +37,7 @@ last_some k [] h = absurd (h refl)
 last_some k (c ∷ t) h = refl
 
 module _ (ids contents : Text → Bool) (plain : Plain ids contents) where
-  lines_step : (p : Text) (ps : List Text) → SomePiece ps → lines ids contents (p ∷ ps) ≡ cond (heads_fit (split 59 p)) (values ids contents (found (split 59 p)) 0 ps) (unread 2 1)
+  pub lines_step : (p : Text) (ps : List Text) → SomePiece ps → lines ids contents (p ∷ ps) ≡ cond (heads_fit (split 59 p)) (values ids contents (found (split 59 p)) 0 ps) (unread 2 1)
   lines_step p _ (pieces q ps) = refl
 
   module _ (cs : List Column) (o : Order cs) where

@@ -62,6 +62,12 @@ join_free d b n [] h = tt
 join_free d b n (p ∷ []) h = h.0
 join_free d b n (p ∷ q ∷ ps) h = All-append (λ c. c ≡ d → ⊥) p (b ∷ join b (q ∷ ps)) h.0 (n, join_free d b n (q ∷ ps) h.1)
 
+-- lines and a blank piece, joined, are the lines with their endings
+pub join_ended : (ls : List Text) → join 10 (ls ++ ([] ∷ [])) ≡ ended ls
+join_ended [] = refl
+join_ended (l ∷ []) = refl
+join_ended (l ∷ m ∷ ls) = ap (λ xs. l ++ (10 ∷ xs)) (join_ended (m ∷ ls))
+
 -- lines with their endings, and then a rest
 pub split_ended : (ls : List Text) (rest : Text) → AllByRecursion (Free 10) ls → split 10 (ended ls ++ rest) ≡ ls ++ split 10 rest
 split_ended [] rest f = refl

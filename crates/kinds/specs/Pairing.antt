@@ -67,7 +67,7 @@ module _ (f : PairForm) where
       split_off f.mark (decimal a) (decimal b) (decimal_free f.mark a (omega arith) f.no_digit)
       ∙ ap (λ ps. decimal a ∷ ps) (split_whole f.mark (decimal b) (decimal_free f.mark b (omega arith) f.no_digit))
 
-  pair_numbers : (a b : ℕ) → Range a b → (first (text a b) ≡ a) × (second (text a b) ≡ b)
+  pub pair_numbers : (a b : ℕ) → Range a b → (first (text a b) ≡ a) × (second (text a b) ≡ b)
   pair_numbers a b r = (
     ap (λ ps. digits_value 10 (slice_index_or ps 0 [])) (pair_split a b r) ∙ told_value a (omega arith),
     ap (λ ps. digits_value 10 (slice_index_or ps 1 [])) (pair_split a b r) ∙ told_value b (omega arith),

@@ -102,7 +102,7 @@ fn held(branch: u32, serial: u32) -> Option<(u32, u32)> {
 pub(crate) fn tables(report: &Report) -> io::Result<()> {
     report.title("Branch numbers: limits")?;
     report.kind::<BranchNumber>(&RANGES)?;
-    report.longest::<BranchNumber>("BranchNumber", 9)?;
+    report.longest::<BranchNumber>("BranchNumber::LONGEST", "BranchNumber::longest_text()", 9)?;
     report.title("Branch numbers: form")?;
     report.kind::<BranchNumber>(&FORMS)?;
     report.kind::<BranchNumber>(&DIGITS)?;

@@ -62,7 +62,7 @@ const ASCENDING: [&[u8]; 8] = [
 pub(crate) fn tables(report: &Report) -> io::Result<()> {
     report.title("Fingerprints: lengths")?;
     report.kind::<Fingerprint>(&LENGTHS)?;
-    report.longest::<Fingerprint>("Fingerprint", 32)?;
+    report.longest::<Fingerprint>("Fingerprint::LONGEST", "Fingerprint::longest_text()", 32)?;
     report.title("Fingerprints: digits")?;
     report.kind::<Fingerprint>(&EDGES)?;
     report.title("Fingerprints: order")?;

@@ -78,7 +78,7 @@ fn lawful_bytes() -> usize {
 pub(crate) fn tables(report: &Report) -> io::Result<()> {
     report.title("Text lines: lengths")?;
     report.kind::<TextLine>(&LENGTHS)?;
-    report.longest::<TextLine>("TextLine", 60)?;
+    report.longest::<TextLine>("TextLine::LONGEST", "TextLine::longest_text()", 60)?;
     report.title("Text lines: places of an unlawful byte")?;
     report.kind::<TextLine>(&PLACES)?;
     report.title("Text lines: each byte alone")?;

@@ -123,12 +123,15 @@ impl<'r> Report<'r> {
         self.expect(what, found == expected)
     }
 
-    // The longest lawful text of a kind, as its constant and as its function tell it.
-    pub(crate) fn longest<K: Written>(&self, kind: &str, expected: usize) -> io::Result<()> {
-        println!(self.rt; "  {kind}::LONGEST: {}", K::LONGEST)?;
-        self.expect("LONGEST", K::LONGEST == expected)?;
-        println!(self.rt; "  {kind}::longest_text(): {}", K::longest_text())?;
-        self.expect("longest_text", K::longest_text() == expected)
+    // The longest lawful text of a kind, as its constant and as its function tell it, each under its name.
+    pub(crate) fn longest<K: Written>(
+        &self,
+        constant: &str,
+        function: &str,
+        expected: usize,
+    ) -> io::Result<()> {
+        self.count(constant, K::LONGEST, expected)?;
+        self.count(function, K::longest_text(), expected)
     }
 
     pub(crate) fn end(&self) -> io::Result<()> {

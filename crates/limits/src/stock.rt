@@ -74,7 +74,7 @@ fn held(item: u32, copies: u32) -> Option<(u32, u32)> {
 pub(crate) fn tables(report: &Report) -> io::Result<()> {
     report.title("Stock rows: limits")?;
     report.kind::<StockRow>(&RANGES)?;
-    report.longest::<StockRow>("StockRow", 10)?;
+    report.longest::<StockRow>("StockRow::LONGEST", "StockRow::longest_text()", 10)?;
     report.title("Stock rows: form")?;
     report.kind::<StockRow>(&FORMS)?;
     report.title("Stock rows: made of two numbers")?;

@@ -1,7 +1,10 @@
 // The loan tool: reads a script from standard input, and prints the answer of each command.
 #![tactic(auto)]
 
+ghost use Rattle.std.specs.Prelude.{◌≤◌, length};
+
 use lending::shelf::Shelf;
+use page::page::LONGEST_PAGE;
 use script::machine::{LONGEST_SCRIPT, Script};
 use script::tool::perform;
 use std::io::{Read, Write};
@@ -11,7 +14,9 @@ const MOST_INPUT: usize = LONGEST_SCRIPT + 1;
 
 // What standard input gives, as far as there is memory for it. An input that fails ends there.
 // No `read_to_end`: the tool needs no heap, so that it never lacks memory.
-fn read_input<'m>(rt: &HostRuntime, memory: &'m mut [u8]) -> &'m [u8] {
+fn read_input<'m>(rt: &HostRuntime, memory: &'m mut [u8]) -> &'m [u8]
+    ensures within { length result.now ≤ length memory.old }
+{
     let mut input = rt.stdin();
     let mut len = 0;
     while len < memory.len() {
@@ -28,10 +33,11 @@ fn main(rt: HostRuntime) {
     let script = Script::new(read_input(&rt, &mut memory));
     let mut shelf = Shelf::new();
     let mut volume = shelf.volume();
+    let mut sheet = [0; LONGEST_PAGE];
     let mut output = rt.stdout();
     for command in script {
-        let text = perform(&mut volume, command);
-        if output.write_all(text.as_slice()).is_err() {
+        let text = perform(&mut volume, command, &mut sheet);
+        if output.write_all(text).is_err() {
             return;
         }
     }

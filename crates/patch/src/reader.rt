@@ -35,6 +35,11 @@ pub struct Entries<'t, I, C> {
     kinds: PhantomData<(I, C)>,
 }
 
+// They hold numbers and a lent text, and no value of their kinds.
+unsafe impl<'t, I, C> Send for Entries<'t, I, C> {}
+
+unsafe impl<'t, I, C> Sync for Entries<'t, I, C> {}
+
 fn fault<I>(reason: Reason, line: usize) -> Refusal<I>
     ensures { result ≡ record { reason = reason; place = line; cause = Nothing; layer = Reader } }
 {
@@ -107,6 +112,20 @@ impl<'t> Patch<'t> {
         Entries {
             columns: self.columns,
             rest: self.values,
+            kinds: PhantomData,
+        }
+    }
+}
+
+impl<'t, I, C> Entries<'t, I, C> {
+    // The entries that are still to come, to be read as other kinds.
+    pub fn read_as<J, D>(&self) -> Entries<'t, J, D>
+        ensures columns { result.columns ≡ self.now.columns }
+        ensures rest { result.rest ≡ self.now.rest }
+    {
+        Entries {
+            columns: self.columns,
+            rest: self.rest,
             kinds: PhantomData,
         }
     }

@@ -1,10 +1,13 @@
 // What the tool prints for a refusal.
 use kinds::identifier::Identifier;
-use page::sheet::Sheet;
 use patch::refusals::{Cause, Refusal};
+use texts::text::Text;
 
-pub(crate) fn refused_text<I: Identifier>(refusal: &Refusal<I>) -> Sheet {
-    let mut text = Sheet::new();
+// Room for `no`, a number, a place, the longest name and byte 10.
+pub type AnswerText = Text<64>;
+
+pub(crate) fn refused_text<I: Identifier>(refusal: &Refusal<I>) -> AnswerText {
+    let mut text = Text::new();
     text.append(b"no ");
     text.append_number(refusal.reason.number());
     text.push(b' ');

@@ -1,5 +1,5 @@
 // The commands of a script, done to a volume.
-ghost use Rattle.std.specs.Prelude.{◌≡◌};
+ghost use Rattle.std.specs.Prelude.{◌≡◌, ◌≤◌, length, IfOk};
 ghost use Rattle.patch.specs.declared.refusals.Cause.TheVariants.{Nothing};
 ghost use Rattle.patch.specs.declared.refusals.Layer.TheVariants.{Tool};
 ghost use Rattle.patch.specs.declared.refusals.Reason.TheVariants.{BadScript};
@@ -8,7 +8,6 @@ ghost use Rattle.script.specs.Places.{place_of};
 use crate::answers::refused_text;
 use crate::machine::{Command, ScriptError};
 use page::page::LONGEST_PAGE;
-use page::sheet::Sheet;
 use patch::refusals::{Layer, Reason, Refusal};
 use store::store::Store;
 use volume::volume::Volume;
@@ -28,27 +27,41 @@ impl<I> From<ScriptError> for Refusal<I> {
     }
 }
 
-// There is memory for every page, so none is refused.
-fn page_text<S: Store>(volume: &Volume<S>) -> Result<Sheet, Refusal<S::Id>> {
-    let mut memory = [0; LONGEST_PAGE];
-    let len = volume.page(&mut memory)?;
-    Ok(Sheet::from_slice(&memory[..len]))
+// Puts a text at the front of the memory, as much of it as there is room for, and says how much that is.
+fn put(memory: &mut [u8], text: &[u8]) -> usize
+    ensures { result ≤ length memory.old }
+{
+    let len = text.len().min(memory.len());
+    memory[..len].copy_from_slice(&text[..len]);
+    len
 }
 
-// Does the command, and gives what it prints where it is granted.
+// Does the command, and leaves what it prints at the front of the memory where it is granted; its length.
 fn granted<S: Store>(
     volume: &mut Volume<S>,
     command: Result<Command, ScriptError>,
-) -> Result<Sheet, Refusal<S::Id>> {
+    memory: &mut [u8],
+) -> Result<usize, Refusal<S::Id>>
+    ensures { IfOk result (λ n. n ≤ length memory.old) }
+{
     match command? {
         Command::Apply { id, text } => volume.apply(id, text)?,
         Command::Unapply { id } => volume.unapply(id)?,
-        Command::Page => return page_text(volume),
+        Command::Page => return volume.page(memory),
     }
-    Ok(Sheet::from_slice(b"ok\n"))
+    Ok(put(memory, b"ok\n"))
 }
 
-// Does the command, and gives what it prints: the page, `ok`, or the refusal.
-pub fn perform<S: Store>(volume: &mut Volume<S>, command: Result<Command, ScriptError>) -> Sheet {
-    granted(volume, command).unwrap_or_else(|refusal| refused_text(&refusal))
+// Does the command, and gives what it prints: the page, `ok`, or the refusal. It stands in the memory, which has room for every page,
+// so no page is refused.
+pub fn perform<'m, S: Store>(
+    volume: &mut Volume<S>,
+    command: Result<Command, ScriptError>,
+    memory: &'m mut [u8; LONGEST_PAGE],
+) -> &'m [u8] {
+    let len = match granted(volume, command, memory) {
+        Ok(len) => len,
+        Err(refusal) => put(memory, refused_text(&refusal).as_slice()),
+    };
+    &memory[..len]
 }

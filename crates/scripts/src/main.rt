@@ -2,6 +2,7 @@
 #![tactic(auto)]
 
 use lending::shelf::Shelf;
+use page::page::LONGEST_PAGE;
 use script::machine::Script;
 use script::tool::perform;
 use std::alloc::{AllocError, Global};
@@ -11,10 +12,11 @@ use std::{env, fs};
 fn printed(heap: Global, bytes: &[u8]) -> Result<Vec<u8>, AllocError> {
     let mut shelf = Shelf::new();
     let mut volume = shelf.volume();
+    let mut sheet = [0; LONGEST_PAGE];
     let mut all = Vec::new(heap);
     for command in Script::new(bytes) {
-        let text = perform(&mut volume, command);
-        all.extend_from_slice(text.as_slice())?;
+        let text = perform(&mut volume, command, &mut sheet);
+        all.extend_from_slice(text)?;
     }
     Ok(all)
 }

@@ -9,13 +9,13 @@ use Rattle.store.specs.Bits.{digit}
 
 -- Digits: std's `bit_at` as a test.
 
-digit_or : (a b k : ℕ) → digit (bit_or a b) k ≡ (digit a k || digit b k)
+pub digit_or : (a b k : ℕ) → digit (bit_or a b) k ≡ (digit a k || digit b k)
 digit_or a b k = grind (arith, nat_tests, bit_at_or a b k, bit_at-lt a k, bit_at-lt b k)
 
-digit_and : (a b k : ℕ) → digit (bit_and a b) k ≡ (digit a k && digit b k)
+pub digit_and : (a b k : ℕ) → digit (bit_and a b) k ≡ (digit a k && digit b k)
 digit_and a b k = grind (arith, nat_tests, bit_at_and a b k, bit_at-lt a k, bit_at-lt b k)
 
-digit_and_not : (a b k : ℕ) → b < 2 ^ 64 → k < 64 → digit (bit_and a (2 ^ 64 - 1 - b)) k ≡ (digit a k && not (digit b k))
+pub digit_and_not : (a b k : ℕ) → b < 2 ^ 64 → k < 64 → digit (bit_and a (2 ^ 64 - 1 - b)) k ≡ (digit a k && not (digit b k))
 digit_and_not a b k h l = grind (arith, nat_tests, bit_at_and a (2 ^ 64 - 1 - b) k, bit_at_not w64 b k h l, bit_at-lt a k, bit_at-lt b k)
 
 -- `w | 1 << s`

@@ -3,12 +3,16 @@ use crate::records::{Line, Link, Strike};
 use kinds::content::Content;
 use kinds::identifier::Identifier;
 use patch::names::LineName;
+use std::cmp::Ordering;
 
 // A record that stands in a list by its key: no two records of a list have equal keys.
 pub trait Record: Copy {
-    type Key: Copy + Ord;
+    type Key: Copy;
 
     fn key(&self) -> Self::Key;
+
+    // How the record's key stands to another, under a total order of keys.
+    fn compare(&self, key: &Self::Key) -> Ordering;
 }
 
 // A record that goes when its owner is dropped.
@@ -22,6 +26,10 @@ impl<I: Identifier, C: Content> Record for Line<I, C> {
 
     fn key(&self) -> LineName<I> {
         self.name
+    }
+
+    fn compare(&self, key: &LineName<I>) -> Ordering {
+        self.name.cmp(key)
     }
 }
 
@@ -39,6 +47,10 @@ impl<I: Identifier> Record for Link<I> {
     fn key(&self) -> Link<I> {
         *self
     }
+
+    fn compare(&self, key: &Link<I>) -> Ordering {
+        self.cmp(key)
+    }
 }
 
 impl<I: Identifier> Owned<I> for Link<I> {
@@ -53,6 +65,10 @@ impl<I: Identifier> Record for Strike<I> {
 
     fn key(&self) -> Strike<I> {
         *self
+    }
+
+    fn compare(&self, key: &Strike<I>) -> Ordering {
+        self.cmp(key)
     }
 }
 

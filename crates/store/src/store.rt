@@ -50,8 +50,10 @@ pub trait Store {
     fn rows(&self) -> Rows {
         let mut rows = Rows::empty();
         for link in (0..self.counts().links).filter_map(|at| self.link(at)) {
-            if let (Some(from), Some(to)) = (self.rank(&link.from), self.rank(&link.to)) {
-                rows.join(from, to);
+            if let Some(from) = self.rank(&link.from) {
+                if let Some(to) = self.rank(&link.to) {
+                    rows.join(from, to);
+                }
             }
         }
         rows

@@ -57,7 +57,8 @@ impl<const N: usize> Text<N> {
 
     // One byte more. A text that is full stays as it is.
     pub fn push(&mut self, byte: u8)
-        ensures { self.new ≡ take N (self.old ++ byte ∷ []) }
+        ensures more { self.new ≡ take N (self.old ++ byte ∷ []) }
+        ensures full { N ≤ length self.old → self.new ≡ self.old }
     {
         if self.len < N {
             self.bytes[self.len] = byte;
@@ -67,7 +68,8 @@ impl<const N: usize> Text<N> {
 
     // These bytes behind the text, as many as there is room for.
     pub fn append(&mut self, bytes: &[u8])
-        ensures { self.new ≡ take N (self.old ++ bytes.now) }
+        ensures more { self.new ≡ take N (self.old ++ bytes.now) }
+        ensures full { N ≤ length self.old → self.new ≡ self.old }
     {
         if self.len == N {
             return;
@@ -79,7 +81,8 @@ impl<const N: usize> Text<N> {
 
     // A number in decimal behind the text.
     pub fn append_number(&mut self, number: usize)
-        ensures { self.new ≡ take N (self.old ++ decimal number) }
+        ensures more { self.new ≡ take N (self.old ++ decimal number) }
+        ensures full { N ≤ length self.old → self.new ≡ self.old }
     {
         if number < 10 {
             self.push(b'0' + number as u8);

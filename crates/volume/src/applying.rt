@@ -100,20 +100,18 @@ impl<'a, S: Store> Application<'a, S> {
         Ok(())
     }
 
-    // How many records the entries give.
+    // How many records the entries give. A loop, so that each entry is read once.
     fn weigh(&self) -> Sizes {
-        let entries = self.entries();
-        Sizes {
-            lines: entries
-                .filter(|entry| matches!(entry, Entry::Add { .. }))
-                .count(),
-            links: entries
-                .filter(|entry| matches!(entry, Entry::Link { .. }))
-                .count(),
-            strikes: entries
-                .filter(|entry| matches!(entry, Entry::Strike { .. }))
-                .count(),
+        let mut sizes = Sizes::default();
+        // A range beside the entries, since it bounds the sizes.
+        for (_, entry) in (0..MOST_ENTRIES).zip(self.entries()) {
+            match entry {
+                Entry::Add { .. } => sizes.lines += 1,
+                Entry::Link { .. } => sizes.links += 1,
+                Entry::Strike { .. } => sizes.strikes += 1,
+            }
         }
+        sizes
     }
 
     // Whether the patch can be applied: it does not stand, its entries are without fault, and there is room for them.

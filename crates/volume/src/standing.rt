@@ -5,10 +5,14 @@ use store::store::Store;
 
 pub(crate) fn stands<S: Store>(store: &S, patch: &S::Id) -> bool {
     let counts = store.counts();
-    let mut lines = (0..counts.lines).filter_map(|rank| store.line(rank));
-    let mut links = (0..counts.links).filter_map(|rank| store.link(rank));
-    let mut strikes = (0..counts.strikes).filter_map(|rank| store.strike(rank));
-    lines.any(|line| line.is_owned_by(patch))
-        || links.any(|link| link.is_owned_by(patch))
-        || strikes.any(|strike| strike.is_owned_by(patch))
+    let has_line = |rank| { store.line(rank).is_some_and(|line| line.is_owned_by(patch)) };
+    let owns_link = |rank| { store.link(rank).is_some_and(|link| link.is_owned_by(patch)) };
+    let owns_strike = |rank| {
+        store
+            .strike(rank)
+            .is_some_and(|strike| strike.is_owned_by(patch))
+    };
+    (0..counts.lines).any(has_line)
+        || (0..counts.links).any(owns_link)
+        || (0..counts.strikes).any(owns_strike)
 }

@@ -10,15 +10,21 @@ use store::store::Store;
 // The least of the other patches whose links and strikes name a line of this one.
 fn least_naming<S: Store>(store: &S, patch: &S::Id) -> Option<S::Id> {
     let counts = store.counts();
-    let links = (0..counts.links)
-        .filter_map(|rank| store.link(rank))
-        .filter(|link| link.from.belongs_to(patch) || link.to.belongs_to(patch))
-        .map(|link| link.owner);
-    let strikes = (0..counts.strikes)
-        .filter_map(|rank| store.strike(rank))
-        .filter(|strike| strike.line.belongs_to(patch))
-        .map(|strike| strike.owner);
-    links.chain(strikes).filter(|owner| owner != patch).min()
+    let least_with_link = (0..counts.links)
+        .filter_map(|rank| {
+            let link = store.link(rank)?;
+            let is_named = link.from.belongs_to(patch) || link.to.belongs_to(patch);
+            (is_named && link.owner != *patch).then_some(link.owner)
+        })
+        .min();
+    let least_with_strike = (0..counts.strikes)
+        .filter_map(|rank| {
+            let strike = store.strike(rank)?;
+            let is_named = strike.line.belongs_to(patch);
+            (is_named && strike.owner != *patch).then_some(strike.owner)
+        })
+        .min();
+    least_with_link.into_iter().chain(least_with_strike).min()
 }
 
 // Whether the patch can be unapplied: it stands, and no other standing patch names a line of it.

@@ -9,6 +9,6 @@ returns g c =
     let law = g.met.I.Identifier.kind in
     let within = law.long.within (g.I.Written.text x) (g.met.I.Written.own x) in
     let patch = c.from_slice-text.ensures.front ∙ ap (take 36) (c.as_slice.ensures.bytes ∙ c.write.ensures) in
-    c.append_number.ensures
-    ∙ ap (λ xs. take 36 (xs ++ decimal n)) (c.push.ensures ∙ ap (λ xs. take 36 (xs ++ 58 ∷ [])) patch)
+    c.append_number.ensures.more
+    ∙ ap (λ xs. take 36 (xs ++ decimal n)) (c.push.ensures.more ∙ ap (λ xs. take 36 (xs ++ 58 ∷ [])) patch)
     ∙ name_filled (g.I.Written.text x) n (omega (arith, within, law.short)) (omega arith)
